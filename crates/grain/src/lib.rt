@@ -219,9 +219,7 @@ impl Session {
         ensures { λ r. ⌜ (r ≡ sessionOf (authenticated (encrypted (take count (bitsOfBytes (now (bytes .entry)))) (macOf (widthOf width) self)) (macOf (widthOf width) self)))
             × (now (bytes .exit) ≡ bytesOf (length (now (bytes .entry))) (encrypted (take count (bitsOfBytes (now (bytes .entry)))) (macOf (widthOf width) self) ++ drop count (bitsOfBytes (now (bytes .entry))))) ⌝ }
     {
-        let n = bits::bits_in(bytes, count);
-        let x = self.cipher(bytes, n, false);
-        x.pad(width)
+        self.message(width, bytes, count, false)
     }
 
     // The first `count` bits of `bytes` are decrypted where they stand, and the MAC goes over the bits as they came.
@@ -229,8 +227,15 @@ impl Session {
         ensures { λ r. ⌜ (r ≡ sessionOf (authenticated (take count (bitsOfBytes (now (bytes .entry)))) (macOf (widthOf width) self)))
             × (now (bytes .exit) ≡ bytesOf (length (now (bytes .entry))) (decrypted (take count (bitsOfBytes (now (bytes .entry)))) (macOf (widthOf width) self) ++ drop count (bitsOfBytes (now (bytes .entry))))) ⌝ }
     {
+        self.message(width, bytes, count, true)
+    }
+
+    fn message(self, width: Width, bytes: &mut [u8], count: usize, decrypting: bool) -> Session
+        ensures { λ r. ⌜ (r ≡ sessionOf (authenticated (cond decrypting (take count (bitsOfBytes (now (bytes .entry)))) (encrypted (take count (bitsOfBytes (now (bytes .entry)))) (macOf (widthOf width) self))) (macOf (widthOf width) self)))
+            × (now (bytes .exit) ≡ bytesOf (length (now (bytes .entry))) (cond decrypting (decrypted (take count (bitsOfBytes (now (bytes .entry)))) (macOf (widthOf width) self)) (encrypted (take count (bitsOfBytes (now (bytes .entry)))) (macOf (widthOf width) self)) ++ drop count (bitsOfBytes (now (bytes .entry))))) ⌝ }
+    {
         let n = bits::bits_in(bytes, count);
-        let x = self.cipher(bytes, n, true);
+        let x = self.cipher(bytes, n, decrypting);
         x.pad(width)
     }
 
