@@ -1,0 +1,2 @@
+-- What the contracts of `book` cite.
+pub mod Book

@@ -1,0 +1,4 @@
+-- The laws that proofs here and above cite.
+pub mod Replies
+pub mod Layouts
+pub mod Plans

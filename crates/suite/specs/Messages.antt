@@ -1,0 +1,75 @@
+-- What sending and receiving a message do, at either end. Assumes nothing.
+use mathlib.Core.Bool.{Bool, cond}
+use mathlib.Core.List.{List, _++_}
+use Prim.Native.Nat.{ℕ, _+_, _-_}
+use lib.Dec.{ltb, eqb}
+use lib.ListN.{length, take}
+use Rattle.bits.specs.Bytes.{fieldOf}
+use Rattle.grain.specs.declared.Register.{Register}
+use Rattle.grain.specs.declared.Engine.{Engine}
+use Rattle.grain.specs.declared.Session.{Session}
+use Rattle.grain.specs.declared.Outputs.{Outputs}
+use Rattle.grain.specs.declared.Method.{Method}
+use Rattle.grain.specs.declared.Method.the-variants.{Ta, Ia, Ma}
+use Rattle.grain.specs.declared.Width.{Width}
+use Rattle.grain.specs.declared.Width.the-variants.{Mac32, Mac64}
+use Rattle.grain.specs.Start.{loaded, started}
+use Rattle.grain.specs.Mac.{filled, authenticated, encrypted, decrypted}
+use Rattle.grain.specs.Stored.{widthOf, bitsR, stateOf, engineOf, macOf, sessionOf, keystreamOf}
+use Rattle.suite.specs.Payloads.{message, mac64}
+
+-- ---- the cipher's promise, as the machines use it
+
+-- methods 0, 1, 2 of Table 2
+abbrev pub methodOf : ℕ → Method
+methodOf m = cond (eqb m 0) Ta (cond (eqb m 1) Ia Ma)
+
+-- the MAC that options bit 0 chooses, and that a stored width says
+abbrev pub chosenWidth : ℕ → Width
+chosenWidth options = cond (mac64 options) Mac64 Mac32
+
+abbrev pub storedWidth : ℕ → Width
+storedWidth width = cond (eqb width 64) Mac64 Mac32
+
+unfoldable pub begunEngine : Register → ℕ → ℕ → ℕ → Engine
+begunEngine key method reader tag = engineOf (started (stateOf (engineOf (loaded (methodOf method) (bitsR key) reader tag))))
+
+unfoldable pub filledSession : Width → Engine → Session
+filledSession v e = sessionOf (filled (widthOf v) (stateOf e))
+
+-- the next 64 keystream bits, and the engine after their pairs
+unfoldable pub nextKeystream : Engine → Outputs
+nextKeystream e = keystreamOf 64 (stateOf e)
+
+unfoldable pub afterMessage : Width → List Bool → Session → Session
+afterMessage v body x = sessionOf (authenticated body (macOf (widthOf v) x))
+
+-- the bits that go out for data, and the data of bits that came in
+unfoldable pub bodyOf : Width → Bool → List Bool → Session → List Bool
+bodyOf v secure ms x = cond secure (encrypted ms (macOf (widthOf v) x)) ms
+
+unfoldable pub dataOf : Width → Bool → List Bool → Session → List Bool
+dataOf v secure cs x = cond secure (decrypted cs (macOf (widthOf v) x)) cs
+
+-- ---- a message is sent
+
+unfoldable pub sentSession : Width → Bool → List Bool → Session → Session
+sentSession v secure ms x = afterMessage v (bodyOf v secure ms x) x
+
+unfoldable pub sentBits : Width → Bool → List Bool → Session → List Bool
+sentBits v secure ms x = message (bodyOf v secure ms x) (widthOf v) (sentSession v secure ms x .acc)
+
+-- ---- a message of `count` bits has come
+
+-- how many of its bits are data: the eight zero bits and the MAC are not
+abbrev pub dataBits : ℕ → ℕ → ℕ
+dataBits w count = count - (8 + w)
+
+-- "the eight bits not zero"
+unfoldable pub zerosOf : ℕ → ℕ → List Bool → Bool
+zerosOf w count l = eqb (fieldOf (dataBits w count) 8 l) 0
+
+-- its MAC is the one that the receiver computes, in all its w bits
+unfoldable pub sameMac : Width → List Bool → ℕ → Session → Bool
+sameMac v l count x =
+    eqb (afterMessage v (take (dataBits (widthOf v) count) l) x .acc) (fieldOf (dataBits (widthOf v) count + 8) (widthOf v) l)
