@@ -1,0 +1,38 @@
+-- `count::count_size` meets its contract. The measure is the count, which every call divides by 128. Assumes nothing.
+use Prim.Native.Nat.{ℕ, _<_}
+use native.Mathlib.Omega.{arith}
+use borrow.Author.Needs.{needs}
+use borrow.Fn.Kinds.{In}
+use borrow.Fn.PlainCycle.{Measures, is, falls, and}
+use Rattle.frames.proofs.Counts.{count-one, count-more}
+use Rattle.frames.proofs.count.+count_size.Lts-count_size as lts
+use Rattle.frames.proofs.count.+count_size.Tie.{close}
+use Rattle.frames.proofs.count.+count_size.{statement}
+use Rattle.frames.proofs.count.count_size.Kinds as kinds
+use Rattle.frames.proofs.count.count_size.Reads as own
+
+abbrev μ : Measures 0 kinds.ps ℕ
+μ κs a = a .0
+
+abbrev here : ℕ → In 0 kinds.ps
+here t = and 0 kinds.ps (is 0 kinds.ps μ t) own.Pre
+
+abbrev calls : ℕ → lts.Claims
+calls t = (and 0 kinds.ps (falls 0 kinds.ps _<_ μ t) own.Pre, own.Post)
+
+count-size-requires : (t : ℕ) → lts.Need-count-size-requires (calls t) (here t) own.Post
+count-size-requires t c κs = search needs
+
+add-result : (t : ℕ) → lts.Need-add-result (calls t) (here t) own.Post
+add-result t c = search needs
+
+returns : (t : ℕ) → lts.Need-returns (calls t) (here t) own.Post
+returns t c = (rw (count-one _ (c .if1 .taken)), omega arith)
+
+returns-2 : (t : ℕ) → lts.Need-returns-2 (calls t) (here t) own.Post
+returns-2 t c = (rw (count-more _ (c .before .if1 .left)) (omega arith), omega arith)
+
+pub +count-size-spec : {M : Type 1} → statement M
++count-size-spec =
+    close μ λ t. lts.spec (calls t) (here t) own.Post
+    (count-size-requires t) (add-result t) (returns t) (returns-2 t)

@@ -1,0 +1,60 @@
+-- `frame_at` meets its contract. Assumes nothing.
+use borrow.Author.Needs.{needs}
+use denote.Ref.{now}
+use Rattle.frames.specs.Frame.{framed}
+use Rattle.frames.proofs.Tails.{tail-all}
+use Rattle.frames.proofs.frame_at.Statement.{statement}
+use Rattle.frames.proofs.frame_at.Tie as tie
+
+sub-check : tie.Need-sub-check
+sub-check c = search needs
+
+part-check-start : tie.Need-part-check-start
+part-check-start c = search needs
+
+part-check-end : tie.Need-part-check-end
+part-check-end c = search needs
+
+check-requires : tie.Need-check-requires
+check-requires c κs = search needs
+
+enum-known-why : tie.Need-enum-known-why
+enum-known-why c = search needs
+
+enum-told : tie.Need-enum-told
+enum-told c = search needs
+
+size-requires : tie.Need-size-requires
+size-requires c κs = search needs
+
+add-t13 : tie.Need-add-t13
+add-t13 c = search needs
+
+returns : tie.Need-returns
+unfolding framed
+returns c =
+    let k = c .before .before .before in
+    let a = k .before .before .before .args in
+    rw (← tail-all (now (a .s)) (a .start), ← k .check .ensures, c .before .why .given .1)
+
+returns-2 : tie.Need-returns-2
+unfolding framed
+returns-2 c =
+    let k = c .before .before .before in
+    let a = k .before .before .before .args in
+    rw (← tail-all (now (a .s)) (a .start), ← k .check .ensures, c .before .enum-told .given .1, c .size .ensures)
+
+pub frame-at-spec : {M : Type 1} → statement M
+frame-at-spec =
+    tie.close
+    (tie.spec
+    sub-check
+    part-check-start
+    part-check-end
+    check-requires
+    enum-known-why
+    enum-told
+    size-requires
+    add-t13
+    returns
+    returns-2)

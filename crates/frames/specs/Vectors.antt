@@ -1,0 +1,41 @@
+-- The counts of document 01, "How firm each promise stands" (d), with the refusals beside them in "Host frames". Assumes nothing.
+use mathlib.Core.List.{[], _∷_}
+use mathlib.Core.Path.{_≡_, refl}
+use Rattle.frames.specs.Count.{groupsOf, countBytes, upTo, joined, countFrom, countAt}
+use Rattle.frames.specs.Frame.{limitOf, checkOf, framed, afterCount, scanOf, placed, writtenOf}
+use Rattle.frames.specs.declared.Refusal.the-variants.{Short, Count}
+use Rattle.frames.specs.declared.Scanned.{Scanned}
+use Rattle.frames.specs.declared.Written.{Written}
+
+pub record Counts : Type 0 where
+  -- 80 is 50; 127 is 7F; 128 is 80 01; 2,120 is C8 10
+  pub n80 : countBytes 80 ≡ 0x50 ∷ []
+  pub n127 : countBytes 127 ≡ 0x7F ∷ []
+  pub n128 : countBytes 128 ≡ 0x80 ∷ 0x01 ∷ []
+  pub n2120 : countBytes 2120 ≡ 0xC8 ∷ 0x10 ∷ []
+  -- 2,121 and 80 00 are 21
+  pub n2121 : countBytes 2121 ≡ 0xC9 ∷ 0x10 ∷ []
+  pub read2121 : scanOf (0x00 ∷ 0xC9 ∷ 0x10 ∷ []) ≡ Scanned.Refused Count
+  pub write2121 : writtenOf 265 0 0 2121 [] ≡ Written.Refused Count
+  pub long : scanOf (0x00 ∷ 0x80 ∷ 0x00 ∷ []) ≡ Scanned.Refused Count
+  -- a second count byte with its high bit set is 21, otherwise a slice that ends inside the count is 20
+  pub second : scanOf (0x00 ∷ 0x80 ∷ 0x80 ∷ []) ≡ Scanned.Refused Count
+  pub inside : scanOf (0x00 ∷ 0x80 ∷ []) ≡ Scanned.Refused Short
+  pub reset : scanOf (0x06 ∷ 0x80 ∷ []) ≡ Scanned.Refused Short
+
+pub counts : Counts
+unfolding groupsOf countBytes upTo joined countFrom countAt limitOf checkOf framed afterCount scanOf placed writtenOf
+counts =
+    record {
+      n80 = refl;
+      n127 = refl;
+      n128 = refl;
+      n2120 = refl;
+      n2121 = refl;
+      read2121 = refl;
+      write2121 = refl;
+      long = refl;
+      second = refl;
+      inside = refl;
+      reset = refl;
+    }
