@@ -1,12 +1,12 @@
 -- The replies that are said field by field, and their lengths. Assumes nothing.
 use mathlib.Core.Path.{_≡_, refl, sym, ap, _∙_}
 use mathlib.Core.Bool.{Bool}
-use mathlib.Core.List.{List, [], _++_, append-nil}
-use Prim.Native.Nat.{ℕ}
+use mathlib.Core.List.{List, [], _++_, append-assoc, append-nil}
+use Prim.Native.Nat.{ℕ, _+_, _*_, _<_}
 use lib.ListN.{length, length-append}
 use Rattle.bits.specs.Bits.{bitsOf}
-use Rattle.bits.proofs.Numbers.{length-bitsOf}
-use Rattle.suite.specs.Payloads.{tagProof, tagChallenge, status, mutualProof}
+use Rattle.bits.proofs.Numbers.{length-bitsOf, bitsOf-join}
+use Rattle.suite.specs.Payloads.{stepZero, stepOne, tagProof, tagChallenge, status, mutualProof}
 
 none : (n : ℕ) → bitsOf 0 n ≡ []
 unfolding bitsOf
@@ -47,3 +47,28 @@ length-status s = length-bitsOf 1 s
 pub length-mutual : (k : ℕ) → length (mutualProof k) ≡ 65
 unfolding mutualProof
 length-mutual k = simp (length-append, length-bitsOf)
+
+-- ---- the reader's commands, whose first byte is method, step and options
+
+-- `(m * 4 + s) * 16 + o`
+pub head-bits : (m s o : ℕ) → s < 4 → o < 16 → bitsOf 8 ((m * 4 + s) * 16 + o) ≡ bitsOf 2 m ++ (bitsOf 2 s ++ bitsOf 4 o)
+head-bits m s o h k = bitsOf-join 4 4 (m * 4 + s) k ∙ ap (λ (l : List Bool). l ++ bitsOf 4 o) (bitsOf-join 2 2 m h) ∙ append-assoc (bitsOf 2 m) (bitsOf 2 s) (bitsOf 4 o)
+
+regroup : (a b c r : List Bool) → (a ++ (b ++ c)) ++ r ≡ a ++ (b ++ (c ++ r))
+regroup a b c r = append-assoc a (b ++ c) r ∙ ap (λ (l : List Bool). a ++ l) (append-assoc b c r)
+
+pub said-zero : (h m o k n : ℕ) → bitsOf 8 h ≡ bitsOf 2 m ++ (bitsOf 2 0 ++ bitsOf 4 o) → bitsOf 8 h ++ (bitsOf 8 k ++ bitsOf 48 n) ≡ stepZero m o k n
+unfolding stepZero
+said-zero h m o k n e = ap (λ (l : List Bool). l ++ (bitsOf 8 k ++ bitsOf 48 n)) e ∙ regroup (bitsOf 2 m) (bitsOf 2 0) (bitsOf 4 o) (bitsOf 8 k ++ bitsOf 48 n)
+
+pub said-one : (h m o k n : ℕ) → bitsOf 8 h ≡ bitsOf 2 m ++ (bitsOf 2 1 ++ bitsOf 4 o) → bitsOf 8 h ++ (bitsOf 8 k ++ bitsOf 64 n) ≡ stepOne m o k n
+unfolding stepOne
+said-one h m o k n e = ap (λ (l : List Bool). l ++ (bitsOf 8 k ++ bitsOf 64 n)) e ∙ regroup (bitsOf 2 m) (bitsOf 2 1) (bitsOf 4 o) (bitsOf 8 k ++ bitsOf 64 n)
+
+pub length-zero : (m o k n : ℕ) → length (stepZero m o k n) ≡ 64
+unfolding stepZero
+length-zero m o k n = simp (length-append, length-bitsOf)
+
+pub length-one : (m o k n : ℕ) → length (stepOne m o k n) ≡ 80
+unfolding stepOne
+length-one m o k n = simp (length-append, length-bitsOf)

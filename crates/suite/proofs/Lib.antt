@@ -2,3 +2,5 @@
 pub mod Replies
 pub mod Layouts
 pub mod Plans
+pub mod ReaderPlans
+pub mod Sound

@@ -122,7 +122,7 @@ no-message false false true g i = true≢false (sym i)
 no-message false false false g i = true≢false (sym i)
 
 -- the states that take messages have their accumulator filled
-filled-row : (n : Name) (o k : ℕ) → eqb k 0 ≡ false → kindWanted (rowOf n) o k ≡ true → rowOf n .filled ≡ true
+pub filled-row : (n : Name) (o k : ℕ) → eqb k 0 ≡ false → kindWanted (rowOf n) o k ≡ true → rowOf n .filled ≡ true
 filled-row CsReset o k h e = absurd (no-message (eqb k 0) (eqb k 1) (eqb k 2) h e)
 filled-row Ta1 o k h e = refl
 filled-row Ia1 o k h e = absurd (no-message (eqb k 0) (eqb k 1) (eqb k 2) h e)
@@ -131,7 +131,7 @@ filled-row Ma1 o k h e = absurd (no-message (eqb k 0) (eqb k 1) (eqb k 2) h e)
 filled-row Ma2 o k h e = refl
 
 -- a stored width of 32 or 64 is the size that it names
-width-stored : (o : Bool) → widthOf (storedWidth (cond o 64 32)) ≡ cond o 64 32
+pub width-stored : (o : Bool) → widthOf (storedWidth (cond o 64 32)) ≡ cond o 64 32
 width-stored true = refl
 width-stored false = refl
 
@@ -139,10 +139,10 @@ width-at-most : (o : Bool) → cond o 64 32 ≤ 64
 width-at-most true = omega arith
 width-at-most false = omega arith
 
-wanted : (r : Row) (e : Bool) (o : ℕ) → r .filled ≡ true → e ≡ false → widthWanted r e o ≡ cond (mac64 o) 64 32
+pub wanted : (r : Row) (e : Bool) (o : ℕ) → r .filled ≡ true → e ≡ false → widthWanted r e o ≡ cond (mac64 o) 64 32
 wanted r e o h k = rw (h, k)
 
-sound-width : (t : Tag) → soundOf t ≡ true → t .width ≡ widthWanted (rowOf (t .name)) (t .error) (t .options)
+pub sound-width : (t : Tag) → soundOf t ≡ true → t .width ≡ widthWanted (rowOf (t .name)) (t .error) (t .options)
 unfolding soundOf
 sound-width t e =
     let a = and-left _ (emptyWhere (rowOf (t .name)) t) e in
@@ -162,28 +162,31 @@ receiving true true e = absurd (true≢false (sym (ap takesMessage e)))
 receiving true false e = absurd (true≢false (sym (ap takesMessage e)))
 receiving false b e = refl
 
--- what a received message is: in a state with a filled accumulator, of a length that leaves its data room
-pub record Receivable (t : Tag) (count size : ℕ) : Type 0 where
-  pub least : 8 + widthOf (storedWidth (t .width)) ≤ count
+-- what a received message is: of a length that leaves its data room, where the width w is stored
+pub record Receivable (w count size : ℕ) : Type 0 where
+  pub least : 8 + widthOf (storedWidth w) ≤ count
   pub most : count ≤ 2120
   pub within : count ≤ 8 * size
 
-pub receivable : (t : Tag) (p : Shown) (size : ℕ) → p .beyond ≡ ltb (8 * size) (p .count)
-    → commandPlan (soundOf t) (faceOf t) p ≡ Plans.Receive → Receivable t (p .count) size
-receivable t p size b e =
+pub receivable : (w : ℕ) (wide : Bool) (count size : ℕ) → w ≡ cond wide 64 32 → lengthFits w count ≡ true → ltb (8 * size) count ≡ false → Receivable w count size
+receivable w wide count size e long b =
+    let size-is : widthOf (storedWidth w) ≡ w = rw e (width-stored wide) in
+    let small : w ≤ 64 = rw e (width-at-most wide) in
+    let low : 8 + w ≤ count = leb-true _ _ (and-left _ _ long) in
+    let high : count ≤ 2048 + 8 + w = leb-true _ _ (and-right (leb (8 + w) count) _ long) in
+    record { least = rw size-is low; most = omega arith; within = ltb-false _ _ b }
+
+pub command-receivable : (t : Tag) (p : Shown) (size : ℕ) → p .beyond ≡ ltb (8 * size) (p .count)
+    → commandPlan (soundOf t) (faceOf t) p ≡ Plans.Receive → Receivable (t .width) (p .count) size
+command-receivable t p size b e =
     let row = rowOf (t .name) in
     let c = plan-passed (soundOf t) (faceOf t) p Plans.Receive refl e in
     let auth : eqb (p .kind) 0 ≡ false = receiving (eqb (p .kind) 0) (fresh row) (plan-work (soundOf t) (faceOf t) p Plans.Receive refl e) in
     let full : row .filled ≡ true = filled-row (t .name) (t .options) (p .kind) auth (not-true _ (c .kind)) in
     let w : t .width ≡ cond (mac64 (t .options)) 64 32 = sound-width t (not-true _ (c .state)) ∙ wanted row (t .error) (t .options) full (c .error) in
-    let size-is : widthOf (storedWidth (t .width)) ≡ t .width = rw w (width-stored (mac64 (t .options))) in
-    let small : t .width ≤ 64 = rw w (width-at-most (mac64 (t .options))) in
-    let fits : (lengthFits (t .width) (p .count) && p .zeros) ≡ true = unless (eqb (p .kind) 0) _ auth (or-false (eqb (p .kind) 0 && not (eqb (p .count) (row .bits))) _ (c .length) .1) in
-    let long = and-left _ _ fits in
-    let low : 8 + t .width ≤ p .count = leb-true _ _ (and-left _ _ long) in
-    let high : p .count ≤ 2048 + 8 + t .width = leb-true _ _ (and-right (leb (8 + t .width) (p .count)) _ long) in
-    let in-slice : p .count ≤ 8 * size = ltb-false _ _ (sym b ∙ or-false _ _ (or-false _ _ (c .argument) .0) .0) in
-    record { least = rw size-is low; most = omega arith; within = in-slice }
+    let fits : (lengthFits (t .width) (p .count) && p .zeros) ≡ true
+    = unless (eqb (p .kind) 0) _ auth (or-false (eqb (p .kind) 0 && not (eqb (p .count) (row .bits))) _ (c .length) .1) in
+    receivable (t .width) (mac64 (t .options)) (p .count) size w (and-left _ _ fits) (sym b ∙ or-false _ _ (or-false _ _ (c .argument) .0) .0)
 
 -- ---- a response's verdict
 

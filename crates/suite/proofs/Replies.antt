@@ -17,7 +17,7 @@ use Rattle.grain.specs.declared.Width.{Width}
 use Rattle.grain.specs.Stored.{widthOf, macOf}
 use Rattle.grain.proofs.Messages.{length-encrypted, length-decrypted}
 use Rattle.suite.specs.Payloads.{message}
-use Rattle.suite.specs.Messages.{bodyOf, dataOf, sentBits}
+use Rattle.suite.specs.Messages.{bodyOf, dataOf, dataBits, sentBits}
 
 -- a field of a word at most, put behind what is shown
 pub field-put : (l : List Bool) (at w n : ℕ) (xs ys zs : List ℕ) → Octets xs → length l ≡ at → w ≤ 64 → at + w ≤ 8 * areaOf xs
@@ -78,6 +78,16 @@ unfolding dataOf
 length-dataOf v true cs x = length-decrypted cs (macOf (widthOf v) x)
 length-dataOf v false cs x = refl
 
-pub length-sentBits : (v : Width) (secure : Bool) (ms : List Bool) (x : Session) → length (sentBits v secure ms x) ≡ length ms + 8 + widthOf v
+length-sentBits : (v : Width) (secure : Bool) (ms : List Bool) (x : Session) → length (sentBits v secure ms x) ≡ length ms + 8 + widthOf v
 unfolding sentBits message
 length-sentBits v secure ms x = simp (length-append, length-bodyOf, length-bitsOf) (omega arith)
+
+-- the bit counts of a message sent and of one received
+
+pub sent-bits : (v : Width) (secure : Bool) (n : ℕ) (xs : List ℕ) (x : Session) → n ≤ 8 * length xs
+    → length (sentBits v secure (take n (bitsOfBytes xs)) x) ≡ n + 8 + widthOf v
+sent-bits v secure n xs x h = length-sentBits v secure (take n (bitsOfBytes xs)) x ∙ ap (λ (k : ℕ). k + 8 + widthOf v) (length-first n xs h)
+
+pub received-bits : (v : Width) (secure : Bool) (count : ℕ) (xs : List ℕ) (x : Session) → count ≤ 8 * length xs
+    → length (dataOf v secure (take (dataBits (widthOf v) count) (bitsOfBytes xs)) x) ≡ dataBits (widthOf v) count
+received-bits v secure count xs x h = length-dataOf v secure _ x ∙ length-first (dataBits (widthOf v) count) xs (omega arith)

@@ -4,3 +4,5 @@ pub mod Payloads
 pub mod Messages
 pub mod TagRules
 pub mod TagWork
+pub mod ReaderRules
+pub mod ReaderWork

@@ -2,7 +2,7 @@
 ghost use mathlib.Core.Path.{_≡_};
 ghost use mathlib.Core.Bool.{cond};
 ghost use mathlib.Core.List.{_++_};
-ghost use Prim.Native.Nat.{_≤_, _*_};
+ghost use Prim.Native.Nat.{_<_, _≤_, _*_};
 ghost use lib.Dec.{ltb};
 ghost use lib.ListN.{length};
 ghost use Rattle.bits.specs.Bits.{bitsOf};
@@ -99,4 +99,15 @@ pub(crate) fn say(out: &mut [u8], a: usize, x: u64, b: usize, y: u64, c: usize, 
     bits::put(out, 0, a, x);
     bits::put(out, a, b, y);
     bits::put(out, a + b, c, z);
+}
+
+// The first byte of an authentication command: method, step, options.
+pub(crate) fn head(method: u8, step: u8, options: u8) -> u64
+    requires { ⌜ (method < 4) × ((step < 4) × (options < 16)) ⌝ }
+    ensures { λ r. ⌜ bitsOf 8 r ≡ bitsOf 2 method ++ (bitsOf 2 step ++ bitsOf 4 options) ⌝ }
+{
+    let m = method as u64;
+    let s = step as u64;
+    let o = options as u64;
+    (m * 4 + s) * 16 + o
 }

@@ -6,7 +6,7 @@ use Rattle.suite.specs.declared.Plan.{Plan}
 use Rattle.suite.specs.declared.Plan.the-variants.{Keep, Close, Start, Prove, Receive}
 use Rattle.suite.specs.TagRules.{soundOf, faceOf, shownOf, commandPlan, Command}
 use Rattle.suite.specs.TagWork.{commandOf, carryOf}
-use Rattle.suite.proofs.Plans.{plan-room, Receivable, receivable}
+use Rattle.suite.proofs.Plans.{plan-room, Receivable, command-receivable}
 use borrow.Author.Needs.{needs}
 use Rattle.suite.proofs.Tag.command.Statement.{statement}
 use Rattle.suite.proofs.Tag.command.Tie as tie
@@ -60,7 +60,7 @@ receive-requires : tie.Need-receive-requires
 unfolding shownOf
 receive-requires c κs =
     let e = planned (c .before .before .before) Receive (c .before .enum-told3 .given .1) in
-    let r = receivable (c .before .before .before .before .before .before .before .before .args .self) _ (length (c .before .before .before .before .before .before .before .before .args .payload .now)) refl e in
+    let r = command-receivable (c .before .before .before .before .before .before .before .before .args .self) _ (length (c .before .before .before .before .before .before .before .before .args .payload .now)) refl e in
     (plan-room _ _ _ Receive refl e, (r .least, (r .most, r .within)))
 
 same-length : tie.Need-same-length

@@ -1,0 +1,15 @@
+-- `suite::reader_rules::width_wanted` meets its contract.
+use Rattle.suite.proofs.reader_rules.width_wanted.Statement.{statement}
+use Rattle.suite.proofs.reader_rules.width_wanted.Tie as tie
+
+returns : tie.Need-returns
+returns c = rw (c .before .if1 .taken, c .if2 .taken)
+
+returns-2 : tie.Need-returns-2
+returns-2 c = rw (c .before .if1 .taken, c .if2 .left)
+
+returns-3 : tie.Need-returns-3
+returns-3 c = rw (c .if1 .left)
+
+pub width-wanted-spec : {M : Type 1} → statement M
+width-wanted-spec = tie.close (tie.spec returns returns-2 returns-3)
