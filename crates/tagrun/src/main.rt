@@ -1,0 +1,164 @@
+// `tagrun` runs the frames of standard input through one tag and prints a line for each (document 01, "Host frames").
+use frames::Refusal;
+use frames::Scanned;
+use libc::STDIN_FILENO;
+use libc::STDOUT_FILENO;
+use suite::Name;
+use suite::Step;
+use suite::Tag;
+ghost use Prim.Native.Nat.{_≤_};
+ghost use lib.ListN.{length};
+
+// The most bytes that it runs.
+const MOST_BYTES: usize = 32768;
+
+// The tag's features: all of Table 5's.
+const FEATURES: u8 = 0x1F;
+
+// The tag's number, that of Annex D's set 6.
+const NUMBER: u64 = 0x778899AABBCC;
+
+// The longest line: 5 digits of a frame's number, an answer of 2, a state's name of 8, a bit count of 4, a reply in hex, and
+// what stands between and behind them.
+const LINE_BYTES: usize = 24 + 2 * Tag::REPLY_BYTES;
+
+// One byte more than it runs is asked for, and tells that the input is too long.
+fn main() {
+    let mut input = [0u8; MOST_BYTES + 1];
+    let n = io::read_full(STDIN_FILENO, &mut input);
+    if MOST_BYTES < n {
+        io::write_all(STDOUT_FILENO, b"input too long\n");
+    } else {
+        run(&input[..n]);
+    }
+}
+
+// A bad frame ends the run.
+fn run(input: &[u8]) {
+    let mut tag = fresh();
+    let mut number: u64 = 0;
+    let mut at: usize = 0;
+    while at < input.len() {
+        number += 1;
+        let rest = &input[at..];
+        match frames::scan(rest) {
+            Scanned::Refused(why) => {
+                print_refusal(number, why);
+                return;
+            }
+            Scanned::Frame {
+                kind,
+                count,
+                start: _,
+                end,
+            } => {
+                tag = run_frame(tag, number, kind, frames::payload(rest), count);
+                at += end;
+            }
+        }
+    }
+}
+
+// The tag as a reset leaves it.
+fn fresh() -> Tag {
+    let mut reply = [0u8; Tag::REPLY_BYTES];
+    Tag::reset(&mut reply).tag
+}
+
+// Runs a frame, prints its line, and answers the next state.
+fn run_frame(tag: Tag, number: u64, kind: u8, payload: &[u8], count: usize) -> Tag {
+    let mut reply = [0u8; Tag::REPLY_BYTES];
+    let step = call(tag, kind, payload, count, &mut reply);
+    print_step(number, step, &reply);
+    step.tag
+}
+
+// Kinds 0 to 3 are commands, 4 and 5 responses wanted, 6 a reset.
+fn call(tag: Tag, kind: u8, payload: &[u8], count: usize, reply: &mut [u8]) -> Step {
+    if kind < 4 {
+        // KeyID 05 and the key of Annex D's set 6.
+        let book = b"\x05\x01\x23\x45\x67\x89\xAB\xCD\xEF\xFE\xDC\xBA\x98\x76\x54\x32\x10";
+        return tag.command(kind, payload, count, FEATURES, book, NUMBER, reply);
+    }
+    if kind < 6 {
+        return tag.response(kind, payload, count, reply);
+    }
+    Tag::reset(reply)
+}
+
+fn print_refusal(number: u64, why: Refusal) {
+    let mut line = [0u8; LINE_BYTES];
+    let at = put_refusal(&mut line, number, why);
+    print_line(&mut line, at);
+}
+
+fn print_step(number: u64, step: Step, reply: &[u8]) {
+    let mut line = [0u8; LINE_BYTES];
+    let at = put_step(&mut line, number, step, reply);
+    print_line(&mut line, at);
+}
+
+// The line whose text ends at `at`, in one write.
+fn print_line(line: &mut [u8], at: usize)
+    requires { ⌜ at ≤ length (now line) ⌝ }
+{
+    let n = text::put(line, at, b"\n");
+    io::write_all(STDOUT_FILENO, &line[..n]);
+}
+
+// Frame number, refusal.
+fn put_refusal(out: &mut [u8], number: u64, why: Refusal) -> usize
+    ensures { λ r. ⌜ r ≤ length (now (out .exit)) ⌝ }
+{
+    let at = put_number(out, 0, number);
+    text::decimal(out, at, why.number() as u64)
+}
+
+// Frame number, answer, state, reply bits, reply.
+fn put_step(out: &mut [u8], number: u64, step: Step, reply: &[u8]) -> usize
+    ensures { λ r. ⌜ r ≤ length (now (out .exit)) ⌝ }
+{
+    let answer = step.answer;
+    let tag = step.tag;
+    let name = tag.name;
+    let at = put_number(out, 0, number);
+    let at = put_number(out, at, answer.number() as u64);
+    let at = put_name(out, at, name);
+    let at = put_number(out, at, step.bits as u64);
+    put_reply(out, at, reply, step.bits)
+}
+
+// A number, and the space behind it.
+fn put_number(out: &mut [u8], at: usize, n: u64) -> usize
+    requires { ⌜ at ≤ length (now out) ⌝ }
+    ensures { λ r. ⌜ r ≤ length (now (out .exit)) ⌝ }
+{
+    let at = text::decimal(out, at, n);
+    text::put(out, at, b" ")
+}
+
+// A state's name, and the space behind it.
+fn put_name(out: &mut [u8], at: usize, name: Name) -> usize
+    requires { ⌜ at ≤ length (now out) ⌝ }
+    ensures { λ r. ⌜ r ≤ length (now (out .exit)) ⌝ }
+{
+    match name {
+        Name::CsReset => text::put(out, at, b"CS-Reset "),
+        Name::Ta1 => text::put(out, at, b"TA.1 "),
+        Name::Ia1 => text::put(out, at, b"IA.1 "),
+        Name::Ia2 => text::put(out, at, b"IA.2 "),
+        Name::Ma1 => text::put(out, at, b"MA.1 "),
+        Name::Ma2 => text::put(out, at, b"MA.2 "),
+    }
+}
+
+// The reply in whole bytes, or `-` where it has no bits.
+fn put_reply(out: &mut [u8], at: usize, reply: &[u8], bits: usize) -> usize
+    requires { ⌜ at ≤ length (now out) ⌝ }
+    ensures { λ r. ⌜ r ≤ length (now (out .exit)) ⌝ }
+{
+    if bits == 0 {
+        return text::put(out, at, b"-");
+    }
+    text::hex(out, at, reply, bits / 8 + (bits % 8 + 7) / 8)
+}

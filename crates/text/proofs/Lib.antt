@@ -1,0 +1,3 @@
+-- The laws of `text`.
+mod Writing
+mod Digits

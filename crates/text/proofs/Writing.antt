@@ -1,0 +1,53 @@
+-- Texts that are written one behind the other. Assumes nothing.
+use Prim.Native.Nat.{ℕ, suc, _+_, _-_, _≤_, min}
+use mathlib.Core.List.{List, [], _∷_, _++_}
+use mathlib.Core.Path.{_≡_, refl, ap, sym, _∙_}
+use native.Mathlib.Decide.{decLe}
+use native.Mathlib.Nat.{add-zero, min-eq-left}
+use native.Mathlib.Omega.{arith}
+use lib.ListN.{length, take, set, length-append}
+use lib.Seq.{sets, set-out, take-all, length-sets}
+use Rattle.text.specs.Text.{Writes}
+
+-- stores past the end are dropped
+sets-out : (l : List ℕ) (i : ℕ) (vs : List ℕ) → length l ≤ i → sets l i vs ≡ l
+sets-out l i [] h = refl
+sets-out l i (v ∷ vs) h = rw (set-out l i v h) (sets-out l (suc i) vs (omega arith))
+
+sets-append : (l : List ℕ) (i : ℕ) (ys zs : List ℕ) → sets l i (ys ++ zs) ≡ sets (sets l i ys) (i + length ys) zs
+sets-append l i [] zs = ap (λ (k : ℕ). sets l k zs) (sym (add-zero i))
+sets-append l i (y ∷ ys) zs =
+    let e : suc i + length ys ≡ i + suc (length ys) = omega arith in
+    sets-append (set l i y) (suc i) ys zs ∙ ap (λ (k : ℕ). sets (sets (set l i y) (suc i) ys) k zs) e
+
+-- nothing is written where it is
+pub empty : (l : List ℕ) (at : ℕ) → Writes [] l at l at
+empty l at = record { bytes = refl; place = omega arith }
+
+pub length-kept : {t l l₁ : List ℕ} {at k : ℕ} → Writes t l at l₁ k → length l₁ ≡ length l
+length-kept {t} {l} {l₁} {at} w = ap length (w .bytes) ∙ length-sets l at t
+
+module _ {t u l l₁ l₂ : List ℕ} {at k m : ℕ} (a : Writes t l at l₁ k) (b : Writes u l₁ k l₂ m) where
+  size : length l₁ ≡ length l
+  size = length-kept a
+
+  -- the place behind t, and the end of the buffer where t has no room, take u alike
+  same : sets l₁ k u ≡ sets l₁ (at + length t) u
+  same = elim (decLe (at + length t) (length l)) [
+    | yes h ↦ ap (λ (i : ℕ). sets l₁ i u) (omega (arith, a .place))
+    | no h ↦ sets-out l₁ k u (omega (arith, a .place, size)) ∙ sym (sets-out l₁ (at + length t) u (omega (arith, size)))
+  ]
+
+  -- one text behind another is one text
+  pub behind : Writes (t ++ u) l at l₂ m
+  behind = record {
+    bytes = b .bytes ∙ same ∙ rw (a .bytes, sets-append);
+    place = omega (arith, a .place, b .place, size, length-append t u);
+  }
+
+-- the first n, where there are so many
+pub take-least : (n : ℕ) (l : List ℕ) → take (min n (length l)) l ≡ take n l
+take-least n l = elim (decLe n (length l)) [
+  | yes h ↦ ap (λ (k : ℕ). take k l) (min-eq-left h)
+  | no h ↦ take-all (min n (length l)) l (omega arith) ∙ sym (take-all n l (omega arith))
+]
