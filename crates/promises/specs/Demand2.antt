@@ -90,20 +90,27 @@ module _ (R : ReaderMachine) (T : TagMachine) (s : Setting) where
   abbrev pub readerTakes : R .State → Talk → List ℕ → ℕ → List ℕ → Given (R .State)
   readerTakes r m payload count buffer = R .receive r (record { kind = cond (m .secure) 2 1; payload = payload; count = count }) buffer
 
-  -- every message of a list is sent, delivered and accepted, from an open pair
-  pub Talks : R .State → T .State → List Talk → Type 0
+  -- a message of the reader's is sent, delivered and accepted by the tag, and so is what follows it; and the same the other way
+  abbrev pub ToTag : R .State → T .State → Talk → List ℕ → List ℕ → List ℕ → (R .State → T .State → Type 0) → Type 0
+  ToTag r t m b c payload Goes =
+      (readerSends r m b .answer ≡ 0)
+      × (Carries (readerSends r m b) payload
+      → Arrives m (tagTakes t m payload (readerSends r m b .bits) c)
+      × Goes (readerSends r m b .next) (tagTakes t m payload (readerSends r m b .bits) c .next))
+
+  abbrev pub ToReader : R .State → T .State → Talk → List ℕ → List ℕ → List ℕ → (R .State → T .State → Type 0) → Type 0
+  ToReader r t m b c payload Goes =
+      (tagSends t m b .answer ≡ 0)
+      × (Carries (tagSends t m b) payload
+      → Arrives m (readerTakes r m payload (tagSends t m b .bits) c)
+      × Goes (readerTakes r m payload (tagSends t m b .bits) c .next) (tagSends t m b .next))
+
+  -- every list of messages goes, from an open pair
+  unfoldable pub Talks : R .State → T .State → List Talk → Type 0
   Talks r t [] = Unit {0}
   Talks r t (m ∷ ms) =
       Allowed s m → (b c payload : List ℕ) → Roomy b → Roomy c
-      → cond·Type (m .toTag)
-      ((readerSends r m b .answer ≡ 0)
-      × (Carries (readerSends r m b) payload
-      → Arrives m (tagTakes t m payload (readerSends r m b .bits) c)
-      × Talks (readerSends r m b .next) (tagTakes t m payload (readerSends r m b .bits) c .next) ms))
-      ((tagSends t m b .answer ≡ 0)
-      × (Carries (tagSends t m b) payload
-      → Arrives m (readerTakes r m payload (tagSends t m b .bits) c)
-      × Talks (readerTakes r m payload (tagSends t m b .bits) c .next) (tagSends t m b .next) ms))
+      → cond·Type (m .toTag) (ToTag r t m b c payload (λ r t. Talks r t ms)) (ToReader r t m b c payload (λ r t. Talks r t ms))
 
   -- the reader's begin and each authentication payload handed on; the tag's later command may have any sound book and number
   abbrev pub begun : R .State → List ℕ → Given (R .State)

@@ -3,7 +3,7 @@
 use mathlib.Core.Bool.{Bool, true, false, cond, not, _||_}
 use mathlib.Core.List.{List, [], _∷_}
 use mathlib.Core.Path.{_≡_}
-use Prim.Native.Nat.{ℕ, _-_, _+_}
+use Prim.Native.Nat.{ℕ, _-_, _+_, _≤_, _<_}
 use lib.Dec.{eqb}
 use lib.ListN.{length, take, drop}
 use Rattle.bits.specs.Area.{areaBytes}
@@ -24,7 +24,7 @@ pub data Call : Type 0 where
 abbrev pub publicBits : ℕ → ℕ
 publicBits count = cond (eqb count 80) 16 count
 
--- the eight bits before a MAC of w bits
+-- the eight bits before a MAC of w bits, where the tag shows a width and the count has room for them
 abbrev pub eightBits : ℕ → Command → ℕ
 eightBits w c = fieldOf (c .count - (8 + w)) 8 (bitsOfBytes (c .payload))
 
@@ -38,7 +38,7 @@ pub record AlikeCommands (w : ℕ) (c d : Command) (b e : List ℕ) : Type 0 whe
   pub bookSize : length (c .book) ≡ length (d .book)
   pub keyIds : Book.idsOf (c .book) ≡ Book.idsOf (d .book)
   pub authentication : c .kind ≡ 0 → take (publicBits (c .count)) (bitsOfBytes (c .payload)) ≡ take (publicBits (c .count)) (bitsOfBytes (d .payload))
-  pub zeros : (c .kind ≡ 0 → ⊥) → eightBits w c ≡ eightBits w d
+  pub zeros : (c .kind ≡ 0 → ⊥) → 0 < w → 8 + w ≤ c .count → eightBits w c ≡ eightBits w d
 
 pub record AlikeResponses (c d : Message) (b e : List ℕ) : Type 0 where
   pub kind : c .kind ≡ d .kind
@@ -108,7 +108,7 @@ module _ (M : TagMachine) where
   next z c g h = cond (isReset c) together (after z (fails g) (fails h))
 
   -- two runs of lists of calls, resets among them, alike call by call
-  pub Silent : Standing → M .State → M .State → List (Call × Call) → Type 0
+  unfoldable pub Silent : Standing → M .State → M .State → List (Call × Call) → Type 0
   Silent z s t [] = Unit {0}
   Silent z s t (p ∷ ps) =
       Alike (M .seen s .width) (p .0) (p .1)

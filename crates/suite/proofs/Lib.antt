@@ -4,3 +4,4 @@ pub mod Layouts
 pub mod Plans
 pub mod ReaderPlans
 pub mod Sound
+pub mod ReaderSound

@@ -45,10 +45,10 @@ pub length-first : (n : ℕ) (xs : List ℕ) → n ≤ 8 * length xs → length 
 length-first n xs h = simp (length-take, length-bitsOfBytes) (omega arith)
 
 -- what stands behind the n bits that a reply shows
-abbrev rest : ℕ → List ℕ → List Bool
+abbrev pub rest : ℕ → List ℕ → List Bool
 rest n xs = padded (8 * areaOf xs - n) [] ++ bitsOfBytes (beyond xs)
 
-front : (l : List Bool) (n : ℕ) (xs : List ℕ) → length l ≡ n → n ≤ 8 * areaOf xs → padded (8 * areaOf xs) l ++ bitsOfBytes (beyond xs) ≡ l ++ rest n xs
+pub front : (l : List Bool) (n : ℕ) (xs : List ℕ) → length l ≡ n → n ≤ 8 * areaOf xs → padded (8 * areaOf xs) l ++ bitsOfBytes (beyond xs) ≡ l ++ rest n xs
 front l n xs e h =
     let k : ℕ = 8 * areaOf xs - n in
     let g : 8 * areaOf xs ≡ length l + k = omega arith in

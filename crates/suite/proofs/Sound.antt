@@ -37,7 +37,7 @@ use Rattle.suite.specs.TagWork.{Result, resetTag, closedTag, openTag, wi
 use Rattle.suite.proofs.Plans.{and-left, not-true, Passed, passed, filled-row, width-stored, wanted, sound-width}
 
 -- what holds of both holds of the one that is chosen
-either : {A : Type 0} (P : A → Type 0) (b : Bool) (x y : A) → P x → P y → P (cond b x y)
+pub either : {A : Type 0} (P : A → Type 0) (b : Bool) (x y : A) → P x → P y → P (cond b x y)
 either P true x y p q = p
 either P false x y p q = q
 
@@ -70,11 +70,11 @@ wide-fits : (w : ℕ) (x : Mac) → Wide w x → wordsFit w (sessionOf x) ≡ tr
 unfolding sessionOf
 wide-fits w x (a, r) = rw (number-fits w (x .acc) a, number-fits w (x .reg) r)
 
-filled-fits : (v : Width) (e : Engine) → wordsFit (widthOf v) (filledSession v e) ≡ true
+pub filled-fits : (v : Width) (e : Engine) → wordsFit (widthOf v) (filledSession v e) ≡ true
 unfolding filledSession filled
 filled-fits v e = wide-fits (widthOf v) _ (length-outs _ _, length-outs _ _)
 
-message-fits : (v : Width) (ms : List Bool) (x : Session) → wordsFit (widthOf v) (afterMessage v ms x) ≡ true
+pub message-fits : (v : Width) (ms : List Bool) (x : Session) → wordsFit (widthOf v) (afterMessage v ms x) ≡ true
 unfolding afterMessage authenticated macOf
 message-fits v ms x =
     let h = width-small v .0 in
@@ -108,7 +108,7 @@ reset-sound = refl
 
 -- ---- open states
 
-width-chosen : (b : Bool) → widthOf (cond b Mac64 Mac32) ≡ cond b 64 32
+pub width-chosen : (b : Bool) → widthOf (cond b Mac64 Mac32) ≡ cond b 64 32
 width-chosen true = refl
 width-chosen false = refl
 
@@ -152,7 +152,7 @@ message-sound t ms s full well =
 
 -- ---- results whose state is sound and whose answer is not 8
 
-abbrev isEight : Answer → Bool
+abbrev pub isEight : Answer → Bool
 isEight a = eqb (numberOf a) 8
 
 record Good (r : Result) : Type 0 where
@@ -207,7 +207,7 @@ unfolding verdictOf closingOf
 not-eight c h = rw h (simp (eight-cond, cond-same))
 
 -- what the call does for each verdict
-by-verdict : (P : Verdict → Type 0) (c : Checks) → c .state ≡ false → ((a : Answer) → isEight a ≡ false → P (Keep a))
+pub by-verdict : (P : Verdict → Type 0) (c : Checks) → c .state ≡ false → ((a : Answer) → isEight a ≡ false → P (Keep a))
     → ((a : Answer) → isEight a ≡ false → P (Close a)) → (Passed c → P Go) → P (verdictOf c)
 by-verdict P c h keep close go = at (verdictOf c) refl (not-eight c h)
   where

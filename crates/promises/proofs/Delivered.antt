@@ -1,0 +1,126 @@
+-- Payloads delivered in any slice that begins with their bits: their fields are what was put there. Assumes nothing.
+use mathlib.Core.Path.{_≡_, refl, sym, ap, ap₂, _∙_}
+use mathlib.Core.Bool.{Bool, true, false, cond}
+use mathlib.Core.List.{List, [], _∷_, _++_, append-assoc, append-nil}
+use Prim.Native.Nat.{ℕ, _+_, _-_, _*_, _^_, _≤_, _<_, min}
+use native.Mathlib.Nat.{add-zero}
+use native.Mathlib.Omega.{arith}
+use lib.Dec.{eqb}
+use lib.ListN.{length, take, drop, replicate, length-append, length-replicate, length-take}
+use lib.Seq.{take-at, take-take, drop-append-add}
+use Rattle.bits.specs.Bits.{bitsOf, numOf}
+use Rattle.bits.specs.Bytes.{bitsOfBytes, padded, fieldOf}
+use Rattle.bits.specs.Area.{areaOf, shown}
+use Rattle.bits.proofs.Lists.{drop-take}
+use Rattle.bits.proofs.Numbers.{length-bitsOf, bitsOf-zero}
+use Rattle.bits.proofs.Bytes.{padded-take, field-back, length-bitsOfBytes}
+use Rattle.bits.proofs.Area.{bits-shown, beyond}
+use Rattle.suite.proofs.Replies.{front}
+use Rattle.suite.specs.Payloads.{stepZero, stepOne, tagProof, tagChallenge, status, mutualProof, message, methodIn, stepIn, optionsIn, keyIdIn, readerNumberIn, readerKeystreamIn}
+
+-- ---- fields
+
+-- a field within the first n bits
+pub field-take : (at w n : ℕ) (l : List Bool) → at + w ≤ n → fieldOf at w (take n l) ≡ fieldOf at w l
+unfolding fieldOf
+field-take at w n l h =
+    ap (λ (m : List Bool). numOf (padded w m)) (drop-take at n l) ∙ ap numOf (padded-take w (n - at) (drop at l) (omega arith))
+
+-- a field of a delivered payload
+pub field-of : (at w n : ℕ) (l reply : List Bool) → take n l ≡ reply → at + w ≤ n → fieldOf at w l ≡ fieldOf at w reply
+field-of at w n l reply e h = sym (field-take at w n l h) ∙ ap (fieldOf at w) e
+
+-- a field behind a part of a bits
+pub field-skip : (a at w : ℕ) (p q : List Bool) → length p ≡ a → fieldOf (a + at) w (p ++ q) ≡ fieldOf at w q
+unfolding fieldOf
+field-skip a at w p q e = ap (λ (k : ℕ). numOf (padded w (drop (k + at) (p ++ q)))) (sym e) ∙ ap (λ (m : List Bool). numOf (padded w m)) (drop-append-add p q at)
+
+pub field-first : (w n : ℕ) (q : List Bool) → n < 2 ^ w → fieldOf 0 w (bitsOf w n ++ q) ≡ n
+field-first w n q h = field-back [] q 0 w n refl h
+
+pub field-whole : (w n : ℕ) → n < 2 ^ w → fieldOf 0 w (bitsOf w n) ≡ n
+field-whole w n h = ap (fieldOf 0 w) (sym (append-nil (bitsOf w n))) ∙ field-first w n [] h
+
+-- a field behind one of a bits
+past : (a x at w : ℕ) (q : List Bool) → fieldOf (a + at) w (bitsOf a x ++ q) ≡ fieldOf at w q
+past a x at w q = field-skip a at w (bitsOf a x) q (length-bitsOf a x)
+
+-- ---- the commands' fields, step 0 and step 1 alike: method, step, options, KeyID, and the last field of v bits
+
+module _ (m s o k v n : ℕ) where
+  abbrev headed : List Bool
+  headed = bitsOf 2 m ++ (bitsOf 2 s ++ (bitsOf 4 o ++ (bitsOf 8 k ++ bitsOf v n)))
+
+  pub headed-method : m < 4 → methodIn headed ≡ m
+  headed-method h = field-first 2 m _ h
+
+  pub headed-step : s < 4 → stepIn headed ≡ s
+  headed-step h = past 2 m 0 2 _ ∙ field-first 2 s _ h
+
+  pub headed-options : o < 16 → optionsIn headed ≡ o
+  headed-options h = past 2 m 2 4 _ ∙ past 2 s 0 4 _ ∙ field-first 4 o _ h
+
+  pub headed-key : k < 256 → keyIdIn headed ≡ k
+  headed-key h = past 2 m 6 8 _ ∙ past 2 s 4 8 _ ∙ past 4 o 0 8 _ ∙ field-first 8 k _ h
+
+  pub headed-last : n < 2 ^ v → fieldOf 16 v headed ≡ n
+  headed-last h = past 2 m 14 v _ ∙ past 2 s 12 v _ ∙ past 4 o 8 v _ ∙ past 8 k 0 v _ ∙ field-whole v n h
+
+-- ---- the responses' fields
+
+pub proof-features : (f n k : ℕ) → f < 256 → fieldOf 0 8 (tagProof f n k) ≡ f
+unfolding tagProof
+proof-features f n k h = field-first 8 f _ h
+
+pub proof-number : (f n k : ℕ) → n < 2 ^ 48 → fieldOf 8 48 (tagProof f n k) ≡ n
+unfolding tagProof
+proof-number f n k h = past 8 f 0 48 _ ∙ field-first 48 n _ h
+
+pub proof-keystream : (f n k : ℕ) → k < 2 ^ 64 → fieldOf 56 64 (tagProof f n k) ≡ k
+unfolding tagProof
+proof-keystream f n k h = past 8 f 48 64 _ ∙ past 48 n 0 64 _ ∙ field-whole 64 k h
+
+pub challenge-features : (f n : ℕ) → f < 256 → fieldOf 0 8 (tagChallenge f n) ≡ f
+unfolding tagChallenge
+challenge-features f n h = field-first 8 f _ h
+
+pub challenge-number : (f n : ℕ) → n < 2 ^ 48 → fieldOf 8 48 (tagChallenge f n) ≡ n
+unfolding tagChallenge
+challenge-number f n h = past 8 f 0 48 _ ∙ field-whole 48 n h
+
+pub status-bit : fieldOf 0 1 (status 0) ≡ 0
+unfolding status
+status-bit = field-whole 1 0 (omega arith)
+
+pub mutual-status : (k : ℕ) → fieldOf 0 1 (mutualProof k) ≡ 0
+unfolding mutualProof
+mutual-status k = field-first 1 0 _ (omega arith)
+
+pub mutual-keystream : (k : ℕ) → k < 2 ^ 64 → fieldOf 1 64 (mutualProof k) ≡ k
+unfolding mutualProof
+mutual-keystream k h = past 1 0 0 64 _ ∙ field-whole 64 k h
+
+-- ---- messages
+
+module _ (body : List Bool) (n w mac : ℕ) (e : length body ≡ n) where
+  zeros-are : replicate 8 false ≡ bitsOf 8 0
+  zeros-are = sym (bitsOf-zero 8)
+
+  pub message-zeros : fieldOf n 8 (message body w mac) ≡ 0
+  unfolding message
+  message-zeros =
+      ap (λ (k : ℕ). fieldOf k 8 (body ++ (replicate 8 false ++ bitsOf w mac))) (sym (add-zero n))
+      ∙ field-skip n 0 8 body _ e ∙ ap (λ (z : List Bool). fieldOf 0 8 (z ++ bitsOf w mac)) zeros-are ∙ field-first 8 0 _ (omega arith)
+
+  pub message-mac : mac < 2 ^ w → fieldOf (n + 8) w (message body w mac) ≡ mac
+  unfolding message
+  message-mac h = field-skip n 8 w body _ e ∙ field-skip 8 0 w (replicate 8 false) _ refl ∙ field-whole w mac h
+
+  pub message-body : (l : List Bool) (c : ℕ) → n ≤ c → take c l ≡ message body w mac → take n l ≡ body
+  unfolding message
+  message-body l c h d = sym (take-take n c l h) ∙ ap (take n) d ∙ take-at body _ n e
+
+-- ---- what an area shows
+
+pub take-shown : (l : List Bool) (xs : List ℕ) → length l ≤ 8 * areaOf xs → take (length l) (bitsOfBytes (shown l xs)) ≡ l
+take-shown l xs h = ap (take (length l)) (bits-shown l xs ∙ front l (length l) xs refl h) ∙ take-at l _ (length l) refl

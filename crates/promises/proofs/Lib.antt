@@ -1,0 +1,7 @@
+-- The demands, proved of our machines.
+pub mod Delivered
+pub mod Talking
+pub mod Opening
+pub mod Public
+pub mod SilenceStep
+pub mod Silence
