@@ -51,20 +51,44 @@ module _ (m s o k v n : ℕ) where
   abbrev headed : List Bool
   headed = bitsOf 2 m ++ (bitsOf 2 s ++ (bitsOf 4 o ++ (bitsOf 8 k ++ bitsOf v n)))
 
-  pub headed-method : m < 4 → methodIn headed ≡ m
+  pub record Fields (l : List Bool) : Type 0 where
+    pub method : methodIn l ≡ m
+    pub step : stepIn l ≡ s
+    pub options : optionsIn l ≡ o
+    pub keyid : keyIdIn l ≡ k
+    pub last : fieldOf 16 v l ≡ n
+
+  headed-method : m < 4 → methodIn headed ≡ m
   headed-method h = field-first 2 m _ h
 
-  pub headed-step : s < 4 → stepIn headed ≡ s
+  headed-step : s < 4 → stepIn headed ≡ s
   headed-step h = past 2 m 0 2 _ ∙ field-first 2 s _ h
 
-  pub headed-options : o < 16 → optionsIn headed ≡ o
+  headed-options : o < 16 → optionsIn headed ≡ o
   headed-options h = past 2 m 2 4 _ ∙ past 2 s 0 4 _ ∙ field-first 4 o _ h
 
-  pub headed-key : k < 256 → keyIdIn headed ≡ k
+  headed-key : k < 256 → keyIdIn headed ≡ k
   headed-key h = past 2 m 6 8 _ ∙ past 2 s 4 8 _ ∙ past 4 o 0 8 _ ∙ field-first 8 k _ h
 
-  pub headed-last : n < 2 ^ v → fieldOf 16 v headed ≡ n
+  headed-last : n < 2 ^ v → fieldOf 16 v headed ≡ n
   headed-last h = past 2 m 14 v _ ∙ past 2 s 12 v _ ∙ past 4 o 8 v _ ∙ past 8 k 0 v _ ∙ field-whole v n h
+
+  headed-fields : (l : List Bool) → take (16 + v) l ≡ headed → m < 4 → s < 4 → o < 16 → k < 256 → n < 2 ^ v → Fields l
+  headed-fields l e a b c d f = record {
+    method = field-of 0 2 (16 + v) l _ e (omega arith) ∙ headed-method a;
+    step = field-of 2 2 (16 + v) l _ e (omega arith) ∙ headed-step b;
+    options = field-of 4 4 (16 + v) l _ e (omega arith) ∙ headed-options c;
+    keyid = field-of 8 8 (16 + v) l _ e (omega arith) ∙ headed-key d;
+    last = field-of 16 v (16 + v) l _ e (omega arith) ∙ headed-last f;
+  }
+
+pub zero-fields : (m o k n : ℕ) (l : List Bool) → take 64 l ≡ stepZero m o k n → m < 3 → o < 4 → k < 256 → n < 2 ^ 48 → Fields m 0 o k 48 n l
+unfolding stepZero
+zero-fields m o k n l e a c d f = headed-fields m 0 o k 48 n l e (omega arith) (omega arith) (omega arith) d f
+
+pub one-fields : (m o k n : ℕ) (l : List Bool) → take 80 l ≡ stepOne m o k n → m < 3 → o < 4 → k < 256 → n < 2 ^ 64 → Fields m 1 o k 64 n l
+unfolding stepOne
+one-fields m o k n l e a c d f = headed-fields m 1 o k 64 n l e (omega arith) (omega arith) (omega arith) d f
 
 -- ---- the responses' fields
 

@@ -1,7 +1,9 @@
 -- The demands, proved of our machines.
 pub mod Delivered
 pub mod Talking
+pub mod Talks
 pub mod Opening
 pub mod Public
 pub mod SilenceStep
 pub mod Silence
+pub mod Answering

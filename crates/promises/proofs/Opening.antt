@@ -6,17 +6,16 @@ use Prim.Native.Nat.{ℕ, zero, suc, _+_, _-_, _*_, _^_, _≤_, _<_, min}
 use native.Mathlib.Omega.{arith}
 use lib.Dec.{eqb, ltb, leb}
 use lib.ListN.{length, take}
-use borrow.Author.Tests.{lt-ltb, le-ltb, le-leb, lt-leb, eq-eqb}
-use Rattle.bits.specs.Bits.{numOf}
+use borrow.Author.Tests.{lt-ltb, le-ltb, le-leb, lt-leb, eq-eqb, ne-eqb}
 use Rattle.bits.specs.Bytes.{bitsOfBytes, fieldOf}
 use Rattle.bits.specs.Area.{areaOf, shown}
 use Rattle.bits.proofs.Numbers.{numOf-lt}
 use Rattle.grain.specs.declared.Engine.{Engine}
+use Rattle.grain.specs.declared.Outputs.{Outputs}
 use Rattle.grain.specs.declared.Register.{Register}
 use Rattle.grain.specs.declared.Session.{Session}
 use Rattle.grain.specs.Mac.{keystream}
 use Rattle.grain.specs.Stored.{widthOf, stateOf, keystreamOf}
-use Rattle.grain.proofs.Words.{width-small}
 use Rattle.grain.proofs.Runs.{length-keystream}
 use Rattle.book.specs.Book as Book
 use Rattle.suite.specs.declared.Answer.the-variants.{Done}
@@ -24,99 +23,198 @@ use Rattle.suite.specs.declared.Name.the-variants.{CsReset, Ta1, Ia1, Ia2, Ma1,
 use Rattle.suite.specs.declared.Reader.{Reader}
 use Rattle.suite.specs.declared.Stage.the-variants.{Idle, Step0Sent, Step1Sent, Open}
 use Rattle.suite.specs.declared.Tag.{Tag}
-use Rattle.suite.specs.Payloads.{stepZero, stepOne, tagProof, tagChallenge, status, mutualProof, hasBit, supports, supportsStart, methodIn, stepIn, optionsIn, keyIdIn, readerNumberIn, readerKeystreamIn}
-use Rattle.suite.specs.Messages.{chosenWidth, begunEngine, filledSession, nextKeystream, sentSession, sentBits, bodyOf}
+use Rattle.suite.specs.declared.Verdict.the-variants.{Go}
+use Rattle.suite.specs.Answers.{verdictOf}
+use Rattle.suite.specs.Payloads.{stepZero, stepOne, tagProof, tagChallenge, status, mutualProof, hasBit, mac64, supports, supportsStart}
+use Rattle.suite.specs.Messages.{chosenWidth, begunEngine, filledSession, nextKeystream}
 use Rattle.suite.specs.TagRules as Rules
-use Rattle.suite.specs.TagRules.{rowOf, soundOf, faceOf, shownOf, commandChecks, commandPlan, wordsFit}
-use Rattle.suite.specs.TagWork.{Result, resetTag, begunTag, openTag, keyIn, commandOf, carryOf, startOf, startedBy, proveOf, provedBy}
-use Rattle.suite.specs.ReaderRules.{stageRow, readerSound, readerFace, beginChecks, beginVerdict, replyChecks, replyPlan}
+use Rattle.suite.specs.TagRules.{rowOf, soundOf, faceOf, shownOf, commandChecks, commandPlan, beyondOf}
+use Rattle.suite.specs.TagWork.{Result, resetTag, begunTag, openTag, keyIn, mutualOf, commandOf, carryOf, startOf, startedBy, proveOf, provedBy}
+use Rattle.suite.specs.ReaderRules.{stageRow, readerSound, readerFace, beginChecks, beginVerdict, replyChecks, replyLength, replyPlan}
 use Rattle.suite.specs.ReaderWork.{ReaderResult, emptyReader, begunReader, filledReader, beginOptions, beginOf, beginBy, begunBy, repliedOf, repliedBy, compareOf, comparedBy, answerOf, answerSession, confirmOf}
 use Rattle.suite.proofs.Layouts.{length-proof, length-challenge, length-status, length-mutual, length-zero, length-one}
-use Rattle.suite.proofs.Replies.{sent-bits}
-use Rattle.suite.proofs.Sound.{message-fits, filled-fits, command-sound, reset-sound}
-use Rattle.suite.proofs.ReaderSound.{reader-reset-sound, begin-sound, replied-sound}
-use Rattle.promises.specs.Machines.{Given, TagMachine, ReaderMachine}
+use Rattle.suite.proofs.Sound.{filled-fits, reset-sound, width-chosen}
+use Rattle.suite.proofs.ReaderSound.{reader-reset-sound}
 use Rattle.promises.specs.Ours.{ourTag, ourReader, tagGiven, readerGiven}
-use Rattle.promises.specs.Demand2.{Setting, Honest, Carries, Talk, Allowed, Arrives, cond·Type, ToTag, ToReader, Talks, Opens, Proves, Accepts, Demand2, Roomy}
-use Rattle.promises.proofs.Delivered.{field-of, headed-method, headed-step, headed-options, headed-key, headed-last, proof-features, proof-number, proof-keystream, challenge-features, challenge-number, status-bit, mutual-status, mutual-keystream, take-shown}
-use Rattle.promises.proofs.Talking.{verdict-go, not-false, widthAt, readerAt, tagAt, bits-length, reader-sends, tag-sends, reader-takes, tag-takes}
+use Rattle.promises.specs.Demand2.{Setting, Honest, Carries, Opens, Proves, Accepts, Demand2, Roomy}
+use Rattle.promises.proofs.Delivered.{field-of, Fields, zero-fields, one-fields, proof-features, proof-number, proof-keystream, challenge-features, challenge-number, status-bit, mutual-status, mutual-keystream}
+use Rattle.promises.proofs.Talking.{verdict-go, not-false, widthAt, readerAt, tagAt}
+use Rattle.promises.proofs.Talks.{delivered, talks}
 
--- ---- what a delivered payload holds
+only : (b c : Bool) → c ≡ false → (b || c) ≡ true → b ≡ true
+only true c h e = refl
+only false c h e = absurd (true≢false (sym e ∙ h))
 
-roomy-area : (l : List Bool) (b : List ℕ) → Roomy b → length l ≤ 2120 → length l ≤ 8 * areaOf b
-roomy-area l b r h = omega arith
+-- the features byte supports the method and its options at step 0
+offers : (m o f : ℕ) → m < 3 → supports f o ≡ true → ((eqb m 0 && hasBit 0 f) || (eqb m 1 && hasBit 1 f) || eqb m 2) ≡ true → supportsStart f m (beginOptions m o) ≡ true
+offers zero o f l s e = rw (s, only (hasBit 0 f) false refl (only _ false refl e))
+offers (suc zero) o f l s e = rw (only (hasBit 1 f) _ refl e)
+offers (suc (suc zero)) o f l s e = refl
+offers (suc (suc (suc m))) o f l s e = absurd (omega arith)
 
--- a reply of n bits, delivered from the area that shows it
-delivered : {S : Type 0} (g : Given S) (l : List Bool) (b payload : List ℕ) (n : ℕ) → g .buffer ≡ shown l b → g .bits ≡ length l → length l ≡ n
-    → Roomy b → n ≤ 2120 → Carries g payload → (n ≤ 8 * length payload) × (take n (bitsOfBytes payload) ≡ l)
-delivered g l b payload n e f k r h c =
-    let bits : g .bits ≡ n = f ∙ k in (
-      rw bits at (c .within),
-      (rw bits at (c .same)) ∙ rw (e, ← k) (take-shown l b (roomy-area l b r (rw k h))),
-    )
+-- the options of a step 0 command
+begin-small : (m o : ℕ) → o < 4 → beginOptions m o < 4
+begin-small m o h = at (eqb m 0)
+  where
+    at : (b : Bool) → cond b o 0 < 4
+    at true = h
+    at false = omega arith
 
--- ---- every list of messages goes
+keystream-small : (e : Engine) → nextKeystream e .word < 2 ^ 64
+unfolding nextKeystream keystreamOf
+keystream-small e = rw length-keystream at (numOf-lt (keystream 64 (stateOf e)))
 
 module _ (s : Setting) (h : Honest s) where
-  words-next : (x : Session) (m : Talk) → wordsFit (widthAt s) (sentSession (chosenWidth (s .options)) (m .secure) (take (m .count) (bitsOfBytes (m .payload))) x) ≡ true
-  unfolding sentSession
-  words-next x m = message-fits (chosenWidth (s .options)) _ x
+  -- the one key, the engine that both ends start, and its first and second 64 keystream bits
+  abbrev key : Register
+  key = keyIn (Book.keyOf (s .keyid) (s .readerBook))
 
-  arrives : {S : Type 0} (x : Session) (w : wordsFit (widthAt s) x ≡ true) (m : Talk) (a : Allowed s m) (c : List ℕ) → Roomy c → (g : Given S) → g .answer ≡ 0
-      → g .bits ≡ length (take (m .count) (bitsOfBytes (m .payload))) → g .buffer ≡ shown (take (m .count) (bitsOfBytes (m .payload))) c → Arrives m g
-  arrives x w m a c r g e f k =
-      let n = bits-length s h x w m a in
-      let l = take (m .count) (bitsOfBytes (m .payload)) in
-      record {
-        answer = e;
-        bits = f ∙ n;
-        same = rw k (ap (λ (j : ℕ). take j (bitsOfBytes (shown l c))) (sym n) ∙ take-shown l c (roomy-area l c r (rw n (omega (arith, a .limit)))));
-      }
+  abbrev engine : Engine
+  engine = begunEngine key (s .method) (s .readerNumber) (s .tagNumber)
 
-  module _ (x : Session) (w : wordsFit (widthAt s) x ≡ true) (m : Talk) (a : Allowed s m) (b c payload : List ℕ) (rb : Roomy b) (rc : Roomy c)
-      (Goes : Reader → Tag → Type 0) (rest : (y : Session) → wordsFit (widthAt s) y ≡ true → Goes (readerAt s y) (tagAt s y)) where
-    abbrev reply : List Bool
-    reply = sentBits (chosenWidth (s .options)) (m .secure) (take (m .count) (bitsOfBytes (m .payload))) x
+  abbrev filled : Session
+  filled = filledSession (chosenWidth (s .options)) engine
 
-    count-is : length reply ≡ m .count + 8 + widthAt s
-    count-is = sent-bits (chosenWidth (s .options)) (m .secure) (m .count) (m .payload) x (a .within)
+  abbrev first : Outputs
+  first = nextKeystream (filled .engine)
 
-    short : m .count + 8 + widthAt s ≤ 2120
-    short = let v = width-small (chosenWidth (s .options)) .1 in omega (arith, a .limit)
+  abbrev asking : Reader
+  asking = begunReader (s .method) (s .options) (s .keyid) (s .readerNumber) key
 
-    to-tag : m .toTag ≡ true → ToTag ourReader ourTag s (readerAt s x) (tagAt s x) m b c payload Goes
-    to-tag t =
-        let e = reader-sends s h x w m a (length b) rb t in
-        rw (e, count-is) (
-          refl,
-          λ g.
-              let d = delivered (readerGiven (record { reader = readerAt s x; answer = Done; reply = reply }) b) reply b payload (m .count + 8 + widthAt s) refl refl count-is rb short
-              (record { within = rw count-is (g .within); same = rw count-is (g .same) }) in
-              let k = tag-takes s h x w m a payload (length c) rc (d .0) (d .1) t in
-              rw k (arrives x w m a c rc (tagGiven (record { tag = tagAt s (sentSession (chosenWidth (s .options)) (m .secure) (take (m .count) (bitsOfBytes (m .payload))) x); answer = Done; reply = take (m .count) (bitsOfBytes (m .payload)) }) c) refl refl refl, rest _ (words-next x m)),
-        )
+  begins : (room : ℕ) → 265 ≤ room
+      → beginOf (emptyReader Idle) (s .method) (s .options) (s .keyid) (s .readerNumber) (s .readerBook) room
+      ≡ begunBy (s .method) (s .options) (s .keyid) (s .readerNumber) (s .readerBook)
+  unfolding beginOf beginVerdict beginBy
+  begins room r =
+      rw (verdict-go (beginChecks (readerSound (emptyReader Idle)) (stageRow Idle) (s .method) (s .options) (s .readerNumber) (Book.soundOf (s .readerBook)) (Book.knownOf (s .keyid) (s .readerBook)) room)
+      (record {
+        state = not-false reader-reset-sound;
+        buffer = le-ltb _ _ r;
+        argument = lt-leb _ _ (h .readerNumber);
+        book = not-false (h .readerSound);
+        error = refl;
+        work = refl;
+        kind = refl;
+        length = refl;
+        step = refl;
+        key = not-false (h .readerKnows);
+        support = rw (lt-leb 3 (s .method) (h .method), lt-leb 4 (s .options) (h .options));
+      }))
 
-    to-reader : m .toTag ≡ false → ToReader ourReader ourTag s (readerAt s x) (tagAt s x) m b c payload Goes
-    to-reader t =
-        let e = tag-sends s h x w m a (length b) rb t in
-        rw (e, count-is) (
-          refl,
-          λ g.
-              let d = delivered (tagGiven (record { tag = tagAt s x; answer = Done; reply = reply }) b) reply b payload (m .count + 8 + widthAt s) refl refl count-is rb short
-              (record { within = rw count-is (g .within); same = rw count-is (g .same) }) in
-              let k = reader-takes s h x w m a payload (length c) rc (d .0) (d .1) t in
-              rw k (arrives x w m a c rc (readerGiven (record { reader = readerAt s (sentSession (chosenWidth (s .options)) (m .secure) (take (m .count) (bitsOfBytes (m .payload))) x); answer = Done; reply = take (m .count) (bitsOfBytes (m .payload)) }) c) refl refl refl, rest _ (words-next x m)),
-        )
+  -- ---- step 0 at the tag
 
-    either-way : cond·Type (m .toTag) (ToTag ourReader ourTag s (readerAt s x) (tagAt s x) m b c payload Goes) (ToReader ourReader ourTag s (readerAt s x) (tagAt s x) m b c payload Goes)
-    either-way = at (m .toTag) refl
+  module _ (payload : List ℕ) (room : ℕ) (r : 265 ≤ room) (inside : 64 ≤ 8 * length payload)
+      (same : take 64 (bitsOfBytes payload) ≡ stepZero (s .method) (beginOptions (s .method) (s .options)) (s .keyid) (s .readerNumber)) where
+    starts : commandOf resetTag (record { kind = 0; payload = payload; count = 64; features = s .features; book = s .tagBook; number = s .tagNumber; room = room })
+        ≡ startedBy (s .method) (s .keyid) (beginOptions (s .method) (s .options)) (s .features) (s .tagNumber) engine
+    unfolding commandOf commandPlan shownOf carryOf startOf
+    starts =
+        let f = zero-fields (s .method) (beginOptions (s .method) (s .options)) (s .keyid) (s .readerNumber) (bitsOfBytes payload) same
+        (h .method) (begin-small (s .method) (s .options) (h .options)) (h .keyid) (h .readerNumber) in
+        let i : Rules.Command = record { kind = 0; payload = payload; count = 64; features = s .features; book = s .tagBook; number = s .tagNumber; room = room } in
+        let go = verdict-go (commandChecks (soundOf resetTag) (rowOf CsReset) (faceOf resetTag) (shownOf 0 i))
+        (record {
+          state = not-false reset-sound;
+          buffer = le-ltb _ _ r;
+          argument = rw (le-ltb _ _ inside, lt-leb _ _ (h .tagNumber));
+          book = not-false (h .tagSound);
+          error = refl;
+          work = refl;
+          kind = refl;
+          length = refl;
+          step = rw (f .step, f .method, ne-eqb (s .method) 3 (λ e. omega (arith, h .method)));
+          key = rw (f .keyid, h .tagKnows);
+          support = rw (f .method, f .options, offers (s .method) (s .options) (s .features) (h .method) (h .supported) (h .offered));
+        }) in
+        rw (go, f .method, f .keyid, f .options, f .last, ← h .oneKey)
+
+  -- ---- the reader, step 0 sent
+
+  asking-sound : readerSound asking ≡ true
+  unfolding readerSound
+  asking-sound = rw (lt-ltb _ _ (h .options), lt-ltb _ _ (h .method), lt-ltb _ _ (h .readerNumber))
+
+  module _ (payload : List ℕ) (room : ℕ) (r : 265 ≤ room) where
+    abbrev l : List Bool
+    l = bitsOfBytes payload
+
+    hears : (n : ℕ) → n ≤ 8 * length payload → replyLength (stageRow Step0Sent) (s .method) n (fieldOf 0 1 l) ≡ true → fieldOf 0 8 l ≡ s .features
+        → verdictOf (replyChecks (readerSound asking) (stageRow Step0Sent) (readerFace asking) (beyondOf payload n) n (fieldOf 0 8 l) (fieldOf 0 1 l) room) ≡ Go
+    hears n inside fits e = verdict-go _ (record {
+      state = not-false asking-sound;
+      buffer = le-ltb _ _ r;
+      argument = le-ltb _ _ inside;
+      book = refl;
+      error = refl;
+      work = refl;
+      kind = refl;
+      length = not-false fits;
+      step = refl;
+      key = refl;
+      support = rw (e, h .supported);
+    })
+
+    same-session : fieldOf 8 48 l ≡ s .tagNumber → answerSession asking l ≡ filled
+    unfolding answerSession
+    same-session e = rw e
+
+    compares : eqb (s .method) 0 ≡ true → 120 ≤ 8 * length payload → take 120 l ≡ tagProof (s .features) (s .tagNumber) (first .word)
+        → repliedOf asking payload 120 room ≡ record { reader = filledReader Open asking (first .engine) filled; answer = Done; reply = [] }
+    unfolding repliedOf replyPlan repliedBy compareOf comparedBy
+    compares m inside same =
+        let f = field-of 0 8 120 l _ same (omega arith) ∙ proof-features (s .features) (s .tagNumber) (first .word) (h .features) in
+        let n = field-of 8 48 120 l _ same (omega arith) ∙ proof-number (s .features) (s .tagNumber) (first .word) (h .tagNumber) in
+        let k = field-of 56 64 120 l _ same (omega arith) ∙ proof-keystream (s .features) (s .tagNumber) (first .word) (keystream-small (filled .engine)) in
+        rw (hears 120 inside (rw m refl) f, m, same-session n, k, eq-eqb (first .word) (first .word) refl)
+
+    answers : eqb (s .method) 0 ≡ false → 56 ≤ 8 * length payload → take 56 l ≡ tagChallenge (s .features) (s .tagNumber)
+        → repliedOf asking payload 56 room
+        ≡ record { reader = filledReader Step1Sent asking (first .engine) filled; answer = Done; reply = stepOne (s .method) (s .options) (s .keyid) (first .word) }
+    unfolding repliedOf replyPlan repliedBy answerOf
+    answers m inside same =
+        let f = field-of 0 8 56 l _ same (omega arith) ∙ challenge-features (s .features) (s .tagNumber) (h .features) in
+        let n = field-of 8 48 56 l _ same (omega arith) ∙ challenge-number (s .features) (s .tagNumber) (h .tagNumber) in
+        rw (hears 56 inside (rw m refl) f, m, same-session n)
+
+  -- ---- step 1 at the tag, of MA where b says so and else of IA
+
+  module _ (b : Bool) (m : s .method ≡ cond b 2 1) (payload book : List ℕ) (number room : ℕ) (q : Book.soundOf book ≡ true) (v : number < 2 ^ 48) (r : 265 ≤ room)
+      (inside : 80 ≤ 8 * length payload) (same : take 80 (bitsOfBytes payload) ≡ stepOne (s .method) (s .options) (s .keyid) (first .word)) where
+    abbrev waiting : Tag
+    waiting = begunTag (cond b Ma1 Ia1) (s .keyid) engine
+
+    proves : commandOf waiting (record { kind = 0; payload = payload; count = 80; features = s .features; book = book; number = number; room = room })
+        ≡ provedBy b true (s .keyid) (s .options) (first .engine) filled
+    unfolding commandOf commandPlan shownOf carryOf proveOf
+    proves =
+        let f = one-fields (s .method) (s .options) (s .keyid) (first .word) (bitsOfBytes payload) same
+        (h .method) (h .options) (h .keyid) (keystream-small (filled .engine)) in
+        let i : Rules.Command = record { kind = 0; payload = payload; count = 80; features = s .features; book = book; number = number; room = room } in
+        let go = verdict-go (commandChecks (soundOf waiting) (rowOf (cond b Ma1 Ia1)) (faceOf waiting) (shownOf 0 i))
+        (record {
+          state = not-false (waiting-sound b);
+          buffer = le-ltb _ _ r;
+          argument = rw (le-ltb _ _ inside, lt-leb _ _ v);
+          book = not-false q;
+          error = refl;
+          work = rw (row-is b);
+          kind = rw (row-is b);
+          length = rw (row-is b);
+          step = rw (row-is b, f .step, f .method, m, eq-eqb (cond b 2 1) (cond b 2 1) refl);
+          key = rw (row-is b, f .keyid, eq-eqb (s .keyid) (s .keyid) refl);
+          support = rw (row-is b, f .options, h .supported);
+        }) in
+        rw (go, row-is b, both b, f .options, f .last, eq-eqb (first .word) (first .word) refl)
       where
-        at : (q : Bool) → m .toTag ≡ q
-            → cond·Type q (ToTag ourReader ourTag s (readerAt s x) (tagAt s x) m b c payload Goes) (ToReader ourReader ourTag s (readerAt s x) (tagAt s x) m b c payload Goes)
-        at true t = to-tag t
-        at false t = to-reader t
+        waiting-sound : (x : Bool) → soundOf (begunTag (cond x Ma1 Ia1) (s .keyid) engine) ≡ true
+        waiting-sound true = unfold soundOf in refl
+        waiting-sound false = unfold soundOf in refl
 
-  pub talks : (ms : List Talk) (x : Session) → wordsFit (widthAt s) x ≡ true → Talks ourReader ourTag s (readerAt s x) (tagAt s x) ms
-  unfolding Talks
-  talks [] x w = tt
-  talks (m ∷ ms) x w = λ a b c payload rb rc. either-way x w m a b c payload rb rc (λ r t. Talks ourReader ourTag s r t ms) (λ y v. talks ms y v)
+        row-is : (x : Bool) → rowOf (cond x Ma1 Ia1)
+            ≡ record { init = true; ta = false; ia = false; fails = false; filled = false; method = cond x 2 1; step = 1; bits = 80; comm = false; idle = false; secure = false; responds = false }
+        row-is true = refl
+        row-is false = refl
+
+        both : (x : Bool) → mutualOf (begunTag (cond x Ma1 Ia1) (s .keyid) engine) ≡ x
+        both true = refl
+        both false = refl

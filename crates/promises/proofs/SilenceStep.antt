@@ -45,11 +45,11 @@ keptIn (Keep a) = true
 keptIn (Close a) = false
 keptIn Go = false
 
-of-cond : (f : Verdict → Bool) (b : Bool) (x y : Verdict) → f (cond b x y) ≡ cond b (f x) (f y)
+pub of-cond : (f : Verdict → Bool) (b : Bool) (x y : Verdict) → f (cond b x y) ≡ cond b (f x) (f y)
 of-cond f true x y = refl
 of-cond f false x y = refl
 
-cond-same : (b c : Bool) → cond b c c ≡ c
+pub cond-same : (b c : Bool) → cond b c c ≡ c
 cond-same true c = refl
 cond-same false c = refl
 
