@@ -3,6 +3,7 @@ pub mod Delivered
 pub mod Talking
 pub mod Talks
 pub mod Opening
+pub mod Delivery
 pub mod Public
 pub mod SilenceStep
 pub mod Silence

@@ -1,25 +1,24 @@
--- Demand 2 of our machines: honest delivery from reset is accepted, and opens a pair that talks. Assumes nothing.
-use mathlib.Core.Path.{_≡_, refl, sym, ap, ap₂, subst, _∙_}
-use mathlib.Core.Bool.{Bool, true, false, cond, not, _&&_, _||_, true≢false}
-use mathlib.Core.List.{List, [], _∷_, _++_}
-use Prim.Native.Nat.{ℕ, zero, suc, _+_, _-_, _*_, _^_, _≤_, _<_, min}
+-- The authentication of an honest setting, call by call: each is accepted. Assumes nothing.
+use mathlib.Core.Path.{_≡_, refl, sym, _∙_}
+use mathlib.Core.Bool.{Bool, true, false, cond, _&&_, _||_, true≢false}
+use mathlib.Core.List.{List, []}
+use Prim.Native.Nat.{ℕ, zero, suc, _*_, _^_, _≤_, _<_}
 use native.Mathlib.Omega.{arith}
-use lib.Dec.{eqb, ltb, leb}
+use lib.Dec.{eqb}
 use lib.ListN.{length, take}
-use borrow.Author.Tests.{lt-ltb, le-ltb, le-leb, lt-leb, eq-eqb, ne-eqb}
+use borrow.Author.Tests.{lt-ltb, le-ltb, lt-leb, eq-eqb, ne-eqb}
 use Rattle.bits.specs.Bytes.{bitsOfBytes, fieldOf}
-use Rattle.bits.specs.Area.{areaOf, shown}
 use Rattle.bits.proofs.Numbers.{numOf-lt}
 use Rattle.grain.specs.declared.Engine.{Engine}
 use Rattle.grain.specs.declared.Outputs.{Outputs}
 use Rattle.grain.specs.declared.Register.{Register}
 use Rattle.grain.specs.declared.Session.{Session}
 use Rattle.grain.specs.Mac.{keystream}
-use Rattle.grain.specs.Stored.{widthOf, stateOf, keystreamOf}
+use Rattle.grain.specs.Stored.{stateOf, keystreamOf}
 use Rattle.grain.proofs.Runs.{length-keystream}
 use Rattle.book.specs.Book as Book
 use Rattle.suite.specs.declared.Answer.the-variants.{Done}
-use Rattle.suite.specs.declared.Name.the-variants.{CsReset, Ta1, Ia1, Ia2, Ma1, Ma2}
+use Rattle.suite.specs.declared.Name.the-variants.{CsReset, Ia1, Ma1}
 use Rattle.suite.specs.declared.Reader.{Reader}
 use Rattle.suite.specs.declared.Stage.the-variants.{Idle, Step0Sent, Step1Sent, Open}
 use Rattle.suite.specs.declared.Tag.{Tag}
@@ -29,17 +28,14 @@ use Rattle.suite.specs.Payloads.{stepZero, stepOne, tagProof, tagChallenge, sta
 use Rattle.suite.specs.Messages.{chosenWidth, begunEngine, filledSession, nextKeystream}
 use Rattle.suite.specs.TagRules as Rules
 use Rattle.suite.specs.TagRules.{rowOf, soundOf, faceOf, shownOf, commandChecks, commandPlan, beyondOf}
-use Rattle.suite.specs.TagWork.{Result, resetTag, begunTag, openTag, keyIn, mutualOf, commandOf, carryOf, startOf, startedBy, proveOf, provedBy}
+use Rattle.suite.specs.TagWork.{resetTag, begunTag, keyIn, mutualOf, commandOf, carryOf, startOf, startedBy, proveOf, provedBy}
 use Rattle.suite.specs.ReaderRules.{stageRow, readerSound, readerFace, beginChecks, beginVerdict, replyChecks, replyLength, replyPlan}
-use Rattle.suite.specs.ReaderWork.{ReaderResult, emptyReader, begunReader, filledReader, beginOptions, beginOf, beginBy, begunBy, repliedOf, repliedBy, compareOf, comparedBy, answerOf, answerSession, confirmOf}
-use Rattle.suite.proofs.Layouts.{length-proof, length-challenge, length-status, length-mutual, length-zero, length-one}
+use Rattle.suite.specs.ReaderWork.{emptyReader, begunReader, filledReader, beginOptions, beginOf, beginBy, begunBy, repliedOf, repliedBy, compareOf, comparedBy, answerOf, answerSession, confirmOf, movedReader, withEngine}
 use Rattle.suite.proofs.Sound.{filled-fits, reset-sound, width-chosen}
 use Rattle.suite.proofs.ReaderSound.{reader-reset-sound}
-use Rattle.promises.specs.Ours.{ourTag, ourReader, tagGiven, readerGiven}
-use Rattle.promises.specs.Demand2.{Setting, Honest, Carries, Opens, Proves, Accepts, Demand2, Roomy}
-use Rattle.promises.proofs.Delivered.{field-of, Fields, zero-fields, one-fields, proof-features, proof-number, proof-keystream, challenge-features, challenge-number, status-bit, mutual-status, mutual-keystream}
-use Rattle.promises.proofs.Talking.{verdict-go, not-false, widthAt, readerAt, tagAt}
-use Rattle.promises.proofs.Talks.{delivered, talks}
+use Rattle.promises.specs.Demand2.{Setting, Honest}
+use Rattle.promises.proofs.Delivered.{field-of, zero-fields, one-fields, proof-features, proof-number, proof-keystream, challenge-features, challenge-number, status-bit, mutual-status, mutual-keystream}
+use Rattle.promises.proofs.Talking.{verdict-go, not-false}
 
 only : (b c : Bool) → c ≡ false → (b || c) ≡ true → b ≡ true
 only true c h e = refl
@@ -66,22 +62,22 @@ keystream-small e = rw length-keystream at (numOf-lt (keystream 64 (stateOf e)))
 
 module _ (s : Setting) (h : Honest s) where
   -- the one key, the engine that both ends start, and its first and second 64 keystream bits
-  abbrev key : Register
+  abbrev pub key : Register
   key = keyIn (Book.keyOf (s .keyid) (s .readerBook))
 
-  abbrev engine : Engine
+  abbrev pub engine : Engine
   engine = begunEngine key (s .method) (s .readerNumber) (s .tagNumber)
 
-  abbrev filled : Session
+  abbrev pub filled : Session
   filled = filledSession (chosenWidth (s .options)) engine
 
-  abbrev first : Outputs
+  abbrev pub first : Outputs
   first = nextKeystream (filled .engine)
 
-  abbrev asking : Reader
+  abbrev pub asking : Reader
   asking = begunReader (s .method) (s .options) (s .keyid) (s .readerNumber) key
 
-  begins : (room : ℕ) → 265 ≤ room
+  pub begins : (room : ℕ) → 265 ≤ room
       → beginOf (emptyReader Idle) (s .method) (s .options) (s .keyid) (s .readerNumber) (s .readerBook) room
       ≡ begunBy (s .method) (s .options) (s .keyid) (s .readerNumber) (s .readerBook)
   unfolding beginOf beginVerdict beginBy
@@ -105,7 +101,7 @@ module _ (s : Setting) (h : Honest s) where
 
   module _ (payload : List ℕ) (room : ℕ) (r : 265 ≤ room) (inside : 64 ≤ 8 * length payload)
       (same : take 64 (bitsOfBytes payload) ≡ stepZero (s .method) (beginOptions (s .method) (s .options)) (s .keyid) (s .readerNumber)) where
-    starts : commandOf resetTag (record { kind = 0; payload = payload; count = 64; features = s .features; book = s .tagBook; number = s .tagNumber; room = room })
+    pub starts : commandOf resetTag (record { kind = 0; payload = payload; count = 64; features = s .features; book = s .tagBook; number = s .tagNumber; room = room })
         ≡ startedBy (s .method) (s .keyid) (beginOptions (s .method) (s .options)) (s .features) (s .tagNumber) engine
     unfolding commandOf commandPlan shownOf carryOf startOf
     starts =
@@ -158,7 +154,7 @@ module _ (s : Setting) (h : Honest s) where
     unfolding answerSession
     same-session e = rw e
 
-    compares : eqb (s .method) 0 ≡ true → 120 ≤ 8 * length payload → take 120 l ≡ tagProof (s .features) (s .tagNumber) (first .word)
+    pub compares : eqb (s .method) 0 ≡ true → 120 ≤ 8 * length payload → take 120 l ≡ tagProof (s .features) (s .tagNumber) (first .word)
         → repliedOf asking payload 120 room ≡ record { reader = filledReader Open asking (first .engine) filled; answer = Done; reply = [] }
     unfolding repliedOf replyPlan repliedBy compareOf comparedBy
     compares m inside same =
@@ -167,7 +163,7 @@ module _ (s : Setting) (h : Honest s) where
         let k = field-of 56 64 120 l _ same (omega arith) ∙ proof-keystream (s .features) (s .tagNumber) (first .word) (keystream-small (filled .engine)) in
         rw (hears 120 inside (rw m refl) f, m, same-session n, k, eq-eqb (first .word) (first .word) refl)
 
-    answers : eqb (s .method) 0 ≡ false → 56 ≤ 8 * length payload → take 56 l ≡ tagChallenge (s .features) (s .tagNumber)
+    pub answers : eqb (s .method) 0 ≡ false → 56 ≤ 8 * length payload → take 56 l ≡ tagChallenge (s .features) (s .tagNumber)
         → repliedOf asking payload 56 room
         ≡ record { reader = filledReader Step1Sent asking (first .engine) filled; answer = Done; reply = stepOne (s .method) (s .options) (s .keyid) (first .word) }
     unfolding repliedOf replyPlan repliedBy answerOf
@@ -183,7 +179,7 @@ module _ (s : Setting) (h : Honest s) where
     abbrev waiting : Tag
     waiting = begunTag (cond b Ma1 Ia1) (s .keyid) engine
 
-    proves : commandOf waiting (record { kind = 0; payload = payload; count = 80; features = s .features; book = book; number = number; room = room })
+    pub proves : commandOf waiting (record { kind = 0; payload = payload; count = 80; features = s .features; book = book; number = number; room = room })
         ≡ provedBy b true (s .keyid) (s .options) (first .engine) filled
     unfolding commandOf commandPlan shownOf carryOf proveOf
     proves =
@@ -218,3 +214,55 @@ module _ (s : Setting) (h : Honest s) where
         both : (x : Bool) → mutualOf (begunTag (cond x Ma1 Ia1) (s .keyid) engine) ≡ x
         both true = refl
         both false = refl
+
+  -- ---- the reader, step 1 sent
+
+  abbrev pub proving : Reader
+  proving = filledReader Step1Sent asking (first .engine) filled
+
+  module _ (later : eqb (s .method) 0 ≡ false) (payload : List ℕ) (room : ℕ) (r : 265 ≤ room) where
+    proving-sound : readerSound proving ≡ true
+    unfolding readerSound
+    proving-sound =
+        rw (
+          lt-ltb _ _ (h .options),
+          eq-eqb _ _ (width-chosen (mac64 (s .options))),
+          filled-fits (chosenWidth (s .options)) engine,
+          lt-ltb _ _ (h .method),
+          lt-ltb _ _ (h .readerNumber),
+          later,
+        )
+
+    learns : (n : ℕ) → n ≤ 8 * length payload → fieldOf 0 1 (bitsOfBytes payload) ≡ 0
+        → replyLength (stageRow Step1Sent) (s .method) n 0 ≡ true
+        → verdictOf (replyChecks (readerSound proving) (stageRow Step1Sent) (readerFace proving) (beyondOf payload n) n (fieldOf 0 8 (bitsOfBytes payload)) 0 room) ≡ Go
+    learns n inside e fits = verdict-go _ (record {
+      state = not-false proving-sound;
+      buffer = le-ltb _ _ r;
+      argument = le-ltb _ _ inside;
+      book = refl;
+      error = refl;
+      work = refl;
+      kind = refl;
+      length = not-false fits;
+      step = refl;
+      key = refl;
+      support = refl;
+    })
+
+    pub accepts : eqb (s .method) 1 ≡ true → 1 ≤ 8 * length payload → take 1 (bitsOfBytes payload) ≡ status 0
+        → repliedOf proving payload 1 room ≡ record { reader = movedReader Open proving (proving .session); answer = Done; reply = [] }
+    unfolding repliedOf replyPlan repliedBy
+    accepts m inside same =
+        let e = field-of 0 1 1 (bitsOfBytes payload) _ same (omega arith) ∙ status-bit in
+        rw (e, learns 1 inside e (rw m refl), m)
+
+    pub confirms : eqb (s .method) 1 ≡ false → 65 ≤ 8 * length payload → take 65 (bitsOfBytes payload) ≡ mutualProof (nextKeystream (first .engine) .word)
+        → repliedOf proving payload 65 room
+        ≡ record { reader = movedReader Open proving (withEngine (proving .session) (nextKeystream (first .engine) .engine)); answer = Done; reply = [] }
+    unfolding repliedOf replyPlan repliedBy confirmOf comparedBy
+    confirms m inside same =
+        let k = nextKeystream (first .engine) .word in
+        let e = field-of 0 1 65 (bitsOfBytes payload) _ same (omega arith) ∙ mutual-status k in
+        let f = field-of 1 64 65 (bitsOfBytes payload) _ same (omega arith) ∙ mutual-keystream k (keystream-small (first .engine)) in
+        rw (e, learns 65 inside e (rw m refl), m, f, eq-eqb k k refl)

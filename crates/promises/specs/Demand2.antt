@@ -8,7 +8,7 @@ use lib.ListN.{length, take}
 use Rattle.bits.specs.Bytes.{bitsOfBytes}
 use Rattle.book.specs.Book as Book
 use Rattle.suite.specs.Payloads.{hasBit, securing, supports, dataLimit}
-use Rattle.promises.specs.Machines.{Given, Command, Message, Begin, TagMachine, ReaderMachine}
+use Rattle.promises.specs.Machines.{Given, TagMachine, ReaderMachine}
 
 -- "Demand 2's one key stands under the begun KeyID in the reader's book at begin and in the tag's at step 0"; the rest of the books
 -- is free, and so are the numbers below 2^48; the features byte supports method and options

@@ -1,15 +1,15 @@
 -- Demand 3, silence: "two tags run from reset alike in all public parts answer alike while their comparisons come out alike, and once
 -- a comparison fails their replies and whole stored states are equal until the next reset." Assumes nothing.
-use mathlib.Core.Bool.{Bool, true, false, cond, not, _||_}
+use mathlib.Core.Bool.{Bool, true, false, cond}
 use mathlib.Core.List.{List, [], _∷_}
 use mathlib.Core.Path.{_≡_}
 use Prim.Native.Nat.{ℕ, _-_, _+_, _≤_, _<_}
 use lib.Dec.{eqb}
-use lib.ListN.{length, take, drop}
+use lib.ListN.{length, take}
 use Rattle.bits.specs.Area.{areaBytes}
 use Rattle.bits.specs.Bytes.{bitsOfBytes, fieldOf}
 use Rattle.book.specs.Book as Book
-use Rattle.promises.specs.Machines.{Given, Seen, Command, Message, TagMachine}
+use Rattle.promises.specs.Machines.{Given, Command, Message, TagMachine}
 
 -- a call of a run, with the buffer that it is lent
 pub data Call : Type 0 where

@@ -12,7 +12,7 @@ use Rattle.suite.specs.declared.Reader.{Reader}
 use Rattle.suite.specs.Answers.{numberOf}
 use Rattle.suite.specs.TagWork as TagWork
 use Rattle.suite.specs.ReaderWork as ReaderWork
-use Rattle.promises.specs.Machines.{Given, Command, Message, Begin, TagMachine, ReaderMachine}
+use Rattle.promises.specs.Machines.{Given, Command, Message, TagMachine, ReaderMachine}
 
 -- a step and its buffer, as `Gives` has them
 abbrev pub tagGiven : TagWork.Result → List ℕ → Given Tag
