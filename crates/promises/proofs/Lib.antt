@@ -8,3 +8,4 @@ pub mod Public
 pub mod SilenceStep
 pub mod Silence
 pub mod Answering
+pub mod Worked

@@ -4,3 +4,4 @@ pub mod Ours
 pub mod Demand1
 pub mod Demand2
 pub mod Demand3
+pub mod Table
