@@ -7,5 +7,9 @@ pub mod Delivery
 pub mod Public
 pub mod SilenceStep
 pub mod Silence
+pub mod Fitting
+pub mod Refusing
 pub mod Answering
 pub mod Worked
+pub mod Determined
+pub mod Sessions
