@@ -1,4 +1,4 @@
--- The demands, proved of our machines.
+-- The demands, proved of our machines, and refuted of wrong tags.
 pub mod Delivered
 pub mod Talking
 pub mod Talks
@@ -13,3 +13,8 @@ pub mod Answering
 pub mod Worked
 pub mod Determined
 pub mod Sessions
+pub mod Refuted
+pub mod Computed
+pub mod Copied
+pub mod Leaks
+pub mod LeaksData

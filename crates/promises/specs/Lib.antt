@@ -1,4 +1,4 @@
--- The demands, as statements over any machine, and the machines that they are proved of.
+-- The demands, as statements over any machine, the machines that they are proved of, and wrong tags that they refuse.
 pub mod Machines
 pub mod Ours
 pub mod Demand1
@@ -6,3 +6,4 @@ pub mod Demand2
 pub mod Demand3
 pub mod Table
 pub mod Determined
+pub mod Wrong

@@ -1,0 +1,172 @@
+-- Demand 3 has force: tags that leak where a comparison fails are refuted. Assumes nothing.
+use mathlib.Core.Path.{_≡_, refl, sym, ap, subst, _∙_}
+use mathlib.Core.Bool.{Bool, true, false, not, true≢false}
+use mathlib.Core.List.{List, [], _∷_}
+use Prim.Native.Nat.{ℕ}
+use native.Mathlib.Omega.{arith}
+use lib.Dec.{eqb}
+use lib.ListN.{drop, getD, replicate}
+use borrow.Author.Tests.{ne-eqb}
+use Rattle.bits.specs.Bits.{bitsOf, digit, numOf}
+use Rattle.bits.specs.Bytes.{bitsOfBytes, bytesOf, padded, fieldOf}
+use Rattle.bits.specs.Area.{shown}
+use Rattle.grain.specs.declared.Engine.{Engine}
+use Rattle.book.specs.Book as Book
+use Rattle.suite.specs.declared.Name.the-variants.{Ia1, Ia2}
+use Rattle.suite.specs.declared.Plan.the-variants.{Prove}
+use Rattle.suite.specs.declared.Tag.{Tag}
+use Rattle.suite.specs.Answers.{verdictOf, closingOf}
+use Rattle.suite.specs.Payloads.{optionsIn, readerKeystreamIn}
+use Rattle.suite.specs.Messages.{begunEngine, filledSession, nextKeystream, chosenWidth}
+use Rattle.suite.specs.TagRules.{commandPlan, soundOf, faceOf, shownOf}
+use Rattle.suite.specs.TagWork.{resetTag, begunTag, challenged, failed, keyIn, commandOf, carryOf, startOf, startedBy, proveOf, provedBy}
+use Rattle.promises.specs.Machines.{Given, Command}
+use Rattle.promises.specs.Ours.{tagGiven, tagCommand}
+use Rattle.promises.specs.Demand3 as Demand3
+use Rattle.promises.specs.Demand3.{Standing, together, Claimed, Silent, WholeAlike, AlikeCommands, Demand3}
+use Rattle.promises.specs.Wrong.{onMismatch, withInput, leavesInput, agreed, expected, withPlace, keepsPlace}
+use Rattle.promises.proofs.Public.{inputOf}
+use Rattle.promises.proofs.Refuted.{book, buffer}
+
+-- ---- IA up to the comparison: step 0, and step 1 with a guess of the keystream whose first byte is x and whose others are 0
+
+abbrev pub called : List ℕ → ℕ → Command
+called payload count = record { kind = 0; payload = payload; count = count; features = 31; book = book; number = 0 }
+
+abbrev pub call : Command → Demand3.Call
+call c = Demand3.command c buffer
+
+abbrev opening : Command
+opening = called (64 ∷ 5 ∷ replicate 6 0) 64
+
+abbrev guess : ℕ → Command
+guess x = called (80 ∷ 5 ∷ x ∷ replicate 7 0) 80
+
+abbrev engine : Engine
+engine = begunEngine (keyIn (Book.keyOf 5 book)) 1 0 0
+
+-- the keystream that is asked for: it is never computed here
+abbrev word : ℕ
+word = nextKeystream (filledSession (chosenWidth 0) engine .engine) .word
+
+abbrev tag : Tag
+tag = begunTag Ia1 5 engine
+
+opens : tagCommand resetTag opening buffer ≡ challenged Ia1 5 31 0 engine
+unfolding commandOf carryOf commandPlan startOf startedBy soundOf shownOf verdictOf closingOf Book.soundOf Book.knownOf Book.idsOf
+    Book.keyIds Book.placeIn Book.rising bitsOfBytes bitsOf digit numOf padded fieldOf
+opens = refl
+
+abbrev Wrong : ℕ → Type 0
+Wrong x = eqb word (readerKeystreamIn (bitsOfBytes (guess x .payload))) ≡ false
+
+proving : (x : ℕ) → commandPlan (soundOf tag) (faceOf tag) (shownOf 0 (inputOf (guess x) buffer)) ≡ Prove
+unfolding commandPlan soundOf shownOf verdictOf closingOf Book.soundOf Book.idsOf Book.keyIds Book.rising bitsOfBytes bitsOf digit numOf padded fieldOf
+proving x = refl
+
+no-options : (x : ℕ) → optionsIn (bitsOfBytes (guess x .payload)) ≡ 0
+unfolding bitsOfBytes bitsOf digit numOf padded fieldOf
+no-options x = refl
+
+mismatch : (x : ℕ) → Wrong x → tagCommand tag (guess x) buffer ≡ failed Ia2
+unfolding commandOf carryOf proveOf provedBy
+mismatch x e = rw (proving x, no-options x, e) refl
+
+-- ---- two wrong guesses are alike in all public parts: so the whole answers are
+
+alike-guesses : (x y : ℕ) → AlikeCommands 0 (guess x) (guess y) buffer buffer
+unfolding bitsOfBytes bitsOf digit
+alike-guesses x y = record {
+  kind = refl;
+  count = refl;
+  size = refl;
+  room = refl;
+  features = refl;
+  number = refl;
+  bookSize = refl;
+  keyIds = refl;
+  authentication = λ k. refl;
+  zeros = λ k w c. absurd (k refl);
+}
+
+pub same-alike : (w : ℕ) (c : Command) (b : List ℕ) → AlikeCommands w c c b b
+same-alike w c b = record {
+  kind = refl;
+  count = refl;
+  size = refl;
+  room = refl;
+  features = refl;
+  number = refl;
+  bookSize = refl;
+  keyIds = refl;
+  authentication = λ k. refl;
+  zeros = λ k p q. refl;
+}
+
+module _ (change : Tag → Command → List ℕ → Given Tag → Given Tag) (d : Demand3 (onMismatch change)) (x y : ℕ) (u : Wrong x) (v : Wrong y) where
+  abbrev given : ℕ → Given Tag
+  given n = change tag (guess n) buffer (tagGiven (failed Ia2) buffer)
+
+  both : given x .answer ≡ 10 → given y .answer ≡ 10 → WholeAlike (onMismatch change) (given x) (given y)
+  unfolding Silent
+  both p q =
+      let h = d [] [] refl ((call opening, call opening) ∷ (call (guess x), call (guess y)) ∷ []) (same-alike 0 opening buffer) .1 in
+      let k = rw opens at h in
+      let m = k (alike-guesses x y) .0 in
+      let n = rw (mismatch x u, mismatch y v) at m in
+      let z : Demand3.after together (Demand3.fails (given x)) (Demand3.fails (given y)) ≡ Demand3.failed = rw (p, q) refl in
+      subst (λ (s : Standing). Claimed (onMismatch change) s (given x) (given y)) z n .1
+
+-- ---- the keystream's first two bits, whatever they are, say what guesses are wrong
+
+wrong : (x k : ℕ) (b : Bool) → digit k word ≡ b → digit k (readerKeystreamIn (bitsOfBytes (guess x .payload))) ≡ not b → Wrong x
+wrong x k b e f = ne-eqb _ _ (λ q. differ b (sym e ∙ ap (digit k) q ∙ f))
+  where
+    differ : (c : Bool) → c ≡ not c → ⊥
+    differ true h = true≢false h
+    differ false h = true≢false (sym h)
+
+abbrev third : List ℕ → ℕ
+third l = getD l 2 0
+
+-- two guesses with the wrong first bit
+pub leaves-input : Demand3 leavesInput → ⊥
+unfolding digit bitsOfBytes bitsOf numOf padded fieldOf shown bytesOf
+leaves-input d = at (digit 63 word) refl
+  where
+    at : (b : Bool) → digit 63 word ≡ b → ⊥
+    at true e =
+        let h : _≡_ {A = ℕ} 0 64 = ap third (both withInput d 0 64 (wrong 0 63 true e refl) (wrong 64 63 true e refl) refl refl .area) in
+        omega (arith, h)
+    at false e =
+        let h : _≡_ {A = ℕ} 128 192 = ap third (both withInput d 128 192 (wrong 128 63 false e refl) (wrong 192 63 false e refl) refl refl .area) in
+        omega (arith, h)
+
+-- ---- a guess with the wrong first bit, and one with the right first and the wrong second
+
+module _ (d : Demand3 keepsPlace) (p q : Bool) (e : digit 63 word ≡ p) (f : digit 62 word ≡ q) where
+  abbrev place : ℕ → ℕ
+  place x = agreed (p ∷ q ∷ bitsOf 62 word) (drop 16 (bitsOfBytes (guess x .payload)))
+
+  place-is : (x : ℕ) → agreed (expected tag (bitsOfBytes (guess x .payload))) (drop 16 (bitsOfBytes (guess x .payload))) ≡ place x
+  place-is x = ap (λ (l : List Bool). agreed l (drop 16 (bitsOfBytes (guess x .payload)))) expects
+    where
+      expects : expected tag (bitsOfBytes (guess x .payload)) ≡ p ∷ q ∷ bitsOf 62 word
+      expects = unfold expected bitsOf in rw (no-options x, e, f) refl
+
+  clash : (x y : ℕ) → digit 63 (readerKeystreamIn (bitsOfBytes (guess x .payload))) ≡ not p
+      → digit 62 (readerKeystreamIn (bitsOfBytes (guess y .payload))) ≡ not q → place x ≡ 0 → place y ≡ 1 → ⊥
+  clash x y u v zero one =
+      let h = both withPlace d x y (wrong x 63 p e u) (wrong y 62 q f v) refl refl .state in
+      let k = sym zero ∙ sym (place-is x) ∙ ap (λ (t : Tag). t .keyid) h ∙ place-is y ∙ one in
+      omega (arith, k)
+
+pub keeps-place : Demand3 keepsPlace → ⊥
+unfolding digit bitsOfBytes bitsOf numOf padded fieldOf agreed
+keeps-place d = at (digit 63 word) (digit 62 word) refl refl
+  where
+    at : (p q : Bool) → digit 63 word ≡ p → digit 62 word ≡ q → ⊥
+    at true true e f = clash d true true e f 0 128 refl refl refl refl
+    at true false e f = clash d true false e f 0 192 refl refl refl refl
+    at false true e f = clash d false true e f 128 0 refl refl refl refl
+    at false false e f = clash d false false e f 128 64 refl refl refl refl
