@@ -1,6 +1,6 @@
 // What the tag's table of states asks, and what a call is refused for: all on public parts, but for the test of a stored state.
 ghost use mathlib.Core.Path.{_≡_};
-ghost use mathlib.Core.Bool.{cond};
+ghost use mathlib.Core.Bool.{true, false, not, cond, _&&_};
 ghost use Prim.Native.Nat.{_≤_, _<_, _^_};
 ghost use lib.Dec.{ltb};
 ghost use lib.ListN.{length};
@@ -26,90 +26,52 @@ pub(crate) fn row_of(name: Name) -> Row
     ensures { λ r. ⌜ r ≡ rowOf name ⌝ }
 {
     match name {
-        Name::CsReset => row(
-            false,
-            false,
-            false,
-            false,
-            false,
-            3,
-            0,
-            64,
-            false,
-            false,
-            false,
-            false,
-        ),
-        Name::Ta1 => row(
-            true,
-            true,
-            false,
-            false,
-            true,
-            3,
-            3,
-            0,
-            false,
-            true,
-            false,
-            true,
-        ),
-        Name::Ia1 => row(
-            true,
-            false,
-            false,
-            false,
-            false,
-            1,
-            1,
-            80,
-            false,
-            false,
-            false,
-            false,
-        ),
-        Name::Ia2 => row(
-            true,
-            false,
-            true,
-            true,
-            true,
-            3,
-            3,
-            0,
-            true,
-            false,
-            false,
-            false,
-        ),
-        Name::Ma1 => row(
-            true,
-            false,
-            false,
-            false,
-            false,
-            2,
-            1,
-            80,
-            false,
-            false,
-            false,
-            false,
-        ),
-        Name::Ma2 => row(
-            true,
-            true,
-            true,
-            true,
-            true,
-            3,
-            3,
-            0,
-            true,
-            false,
-            true,
-            true,
-        ),
+        Name::CsReset => waiting(false, 3, 0, 64),
+        Name::Ta1 => opened(true, false),
+        Name::Ia1 => waiting(true, 1, 1, 80),
+        Name::Ia2 => opened(false, true),
+        Name::Ma1 => waiting(true, 2, 1, 80),
+        Name::Ma2 => opened(true, true),
+    }
+}
+
+// A state that waits for an authentication takes nothing else.
+fn waiting(init: bool, method: u8, step: u8, bits: usize) -> Row
+    ensures { λ r. ⌜ r ≡ record { init = init; ta = false; ia = false; fails = false; filled = false; method = method; step = step; bits = bits; comm = false; idle = false; secure = false; responds = false } ⌝ }
+{
+    Row {
+        init,
+        ta: false,
+        ia: false,
+        fails: false,
+        filled: false,
+        method,
+        step,
+        bits,
+        comm: false,
+        idle: false,
+        secure: false,
+        responds: false,
+    }
+}
+
+// Once open: a proved interrogator may command, a proved tag responds, and where both are, messages may be secure.
+fn opened(ta: bool, ia: bool) -> Row
+    ensures { λ r. ⌜ r ≡ record { init = true; ta = ta; ia = ia; fails = ia; filled = true; method = 3; step = 3; bits = 0; comm = ia; idle = not ia; secure = ta && ia; responds = ta } ⌝ }
+{
+    Row {
+        init: true,
+        ta,
+        ia,
+        fails: ia,
+        filled: true,
+        method: 3,
+        step: 3,
+        bits: 0,
+        comm: ia,
+        idle: !ia,
+        secure: ta & ia,
+        responds: ta,
     }
 }
 
@@ -368,36 +330,4 @@ pub(crate) fn response_verdict(t: Tag, kind: u8, beyond: bool, count: usize, roo
         support: false,
     };
     order::verdict(checks)
-}
-
-fn row(
-    init: bool,
-    ta: bool,
-    ia: bool,
-    fails: bool,
-    filled: bool,
-    method: u8,
-    step: u8,
-    bits: usize,
-    comm: bool,
-    idle: bool,
-    secure: bool,
-    responds: bool,
-) -> Row
-    ensures { λ r. ⌜ r ≡ record { init = init; ta = ta; ia = ia; fails = fails; filled = filled; method = method; step = step; bits = bits; comm = comm; idle = idle; secure = secure; responds = responds } ⌝ }
-{
-    Row {
-        init,
-        ta,
-        ia,
-        fails,
-        filled,
-        method,
-        step,
-        bits,
-        comm,
-        idle,
-        secure,
-        responds,
-    }
 }
