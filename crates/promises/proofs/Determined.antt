@@ -9,7 +9,7 @@ use lib.Seq.{sets}
 use Rattle.bits.specs.Bits.{bitsOf}
 use Rattle.bits.specs.Bytes.{bitsOfBytes, bytesOf, fieldOf, wordBits}
 use Rattle.bits.specs.Area.{shown}
-use Rattle.text.specs.Text.{Writes, decimalOf, hexOf}
+use Rattle.text.specs.Text.{Writes, decimalOf, hexOf, spacedOf, replyOf}
 use Rattle.book.specs.Book as Book
 use Rattle.frames.specs.declared.Refusal.{Refusal}
 use Rattle.frames.specs.declared.Scanned.{Scanned}
@@ -87,6 +87,12 @@ decimal out at n = writes _ _ _
 
 pub hex : (out : List ℕ) (at : ℕ) (bytes : List ℕ) (n : ℕ) → Determines (λ (x : List ℕ × ℕ). Writes (hexOf (take n bytes)) out at (x .0) (x .1))
 hex out at bytes n = writes _ _ _
+
+pub spaced : (out : List ℕ) (at n : ℕ) → Determines (λ (x : List ℕ × ℕ). Writes (spacedOf n) out at (x .0) (x .1))
+spaced out at n = writes _ _ _
+
+pub reply : (out : List ℕ) (at : ℕ) (bytes : List ℕ) (count : ℕ) → Determines (λ (x : List ℕ × ℕ). Writes (replyOf count bytes) out at (x .0) (x .1))
+reply out at bytes count = writes _ _ _
 
 -- ---- book
 

@@ -293,9 +293,9 @@ fn put_turn(out: &mut [u8], call: Call, run: Run, reply: &[u8]) -> usize
 {
     let answer = run.answer;
     let at = put_call(out, call);
-    let at = put_number(out, at, answer.number() as u64);
-    let at = put_number(out, at, run.bits as u64);
-    put_reply(out, at, reply, run.bits)
+    let at = text::spaced(out, at, answer.number() as u64);
+    let at = text::spaced(out, at, run.bits as u64);
+    text::reply(out, at, reply, run.bits)
 }
 
 // Who is called, the call, and the space behind it.
@@ -313,24 +313,4 @@ fn put_call(out: &mut [u8], call: Call) -> usize
         Call::Send(_) => text::put(out, 0, b"reader send "),
         Call::Receive(_) => text::put(out, 0, b"reader receive "),
     }
-}
-
-// A number, and the space behind it.
-fn put_number(out: &mut [u8], at: usize, n: u64) -> usize
-    requires { ⌜ at ≤ length (now out) ⌝ }
-    ensures { λ r. ⌜ r ≤ length (now (out .exit)) ⌝ }
-{
-    let at = text::decimal(out, at, n);
-    text::put(out, at, b" ")
-}
-
-// The reply in whole bytes, or `-` where it has no bits.
-fn put_reply(out: &mut [u8], at: usize, reply: &[u8], bits: usize) -> usize
-    requires { ⌜ at ≤ length (now out) ⌝ }
-    ensures { λ r. ⌜ r ≤ length (now (out .exit)) ⌝ }
-{
-    if bits == 0 {
-        return text::put(out, at, b"-");
-    }
-    text::hex(out, at, reply, bits / 8 + (bits % 8 + 7) / 8)
 }

@@ -110,7 +110,7 @@ fn print_line(line: &mut [u8], at: usize)
 fn put_refusal(out: &mut [u8], number: u64, why: Refusal) -> usize
     ensures { λ r. ⌜ r ≤ length (now (out .exit)) ⌝ }
 {
-    let at = put_number(out, 0, number);
+    let at = text::spaced(out, 0, number);
     text::decimal(out, at, why.number() as u64)
 }
 
@@ -121,20 +121,18 @@ fn put_step(out: &mut [u8], number: u64, step: Step, reply: &[u8]) -> usize
     let answer = step.answer;
     let tag = step.tag;
     let name = tag.name;
-    let at = put_number(out, 0, number);
-    let at = put_number(out, at, answer.number() as u64);
+    let at = put_answer(out, number, answer.number() as u64);
     let at = put_name(out, at, name);
-    let at = put_number(out, at, step.bits as u64);
-    put_reply(out, at, reply, step.bits)
+    let at = text::spaced(out, at, step.bits as u64);
+    text::reply(out, at, reply, step.bits)
 }
 
-// A number, and the space behind it.
-fn put_number(out: &mut [u8], at: usize, n: u64) -> usize
-    requires { ⌜ at ≤ length (now out) ⌝ }
+// Frame number, answer.
+fn put_answer(out: &mut [u8], number: u64, answer: u64) -> usize
     ensures { λ r. ⌜ r ≤ length (now (out .exit)) ⌝ }
 {
-    let at = text::decimal(out, at, n);
-    text::put(out, at, b" ")
+    let at = text::spaced(out, 0, number);
+    text::spaced(out, at, answer)
 }
 
 // A state's name, and the space behind it.
@@ -150,15 +148,4 @@ fn put_name(out: &mut [u8], at: usize, name: Name) -> usize
         Name::Ma1 => text::put(out, at, b"MA.1 "),
         Name::Ma2 => text::put(out, at, b"MA.2 "),
     }
-}
-
-// The reply in whole bytes, or `-` where it has no bits.
-fn put_reply(out: &mut [u8], at: usize, reply: &[u8], bits: usize) -> usize
-    requires { ⌜ at ≤ length (now out) ⌝ }
-    ensures { λ r. ⌜ r ≤ length (now (out .exit)) ⌝ }
-{
-    if bits == 0 {
-        return text::put(out, at, b"-");
-    }
-    text::hex(out, at, reply, bits / 8 + (bits % 8 + 7) / 8)
 }

@@ -3,8 +3,8 @@ use mathlib.Core.Bool.{cond}
 use mathlib.Core.List.{List, [], _∷_, _++_}
 use mathlib.Core.Path.{_≡_}
 use Prim.Native.Nat.{ℕ, zero, suc, _+_, _-_, _/_, _%_, min}
-use lib.Dec.{ltb}
-use lib.ListN.{length}
+use lib.Dec.{ltb, eqb}
+use lib.ListN.{length, take}
 use lib.Seq.{sets}
 
 -- a digit below 16: `0` to `9`, then `A` to `F`
@@ -28,6 +28,14 @@ hexByte b = digit (b / 16) ∷ digit (b % 16) ∷ []
 unfoldable pub hexOf : List ℕ → List ℕ
 hexOf [] = []
 hexOf (b ∷ bs) = hexByte b ++ hexOf bs
+
+-- a number, and the space behind it
+unfoldable pub spacedOf : ℕ → List ℕ
+spacedOf n = decimalOf n ++ (32 ∷ [])
+
+-- a reply's bits, in hexadecimal in whole bytes: `-` where it has none
+unfoldable pub replyOf : ℕ → List ℕ → List ℕ
+replyOf count bytes = cond (eqb count 0) (45 ∷ []) (hexOf (take ((count + 7) / 8) bytes))
 
 -- a text written from a place of a buffer on, and the place behind it: what has no room is dropped
 pub record Writes (text before : List ℕ) (at : ℕ) (after : List ℕ) (next : ℕ) : Type 0 where

@@ -4,7 +4,7 @@ ghost use mathlib.Core.Path.{_≡_};
 ghost use mathlib.Core.List.{[], _∷_};
 ghost use Prim.Native.Nat.{_<_, min};
 ghost use lib.ListN.{take};
-ghost use Rattle.text.specs.Text.{Writes, decimalOf, hexOf, hexByte};
+ghost use Rattle.text.specs.Text.{Writes, decimalOf, hexOf, hexByte, spacedOf, replyOf};
 ghost use Rattle.text.specs.Text.{digit as Text·digit};
 
 // A text that is at hand.
@@ -38,6 +38,24 @@ pub fn hex(out: &mut [u8], at: usize, bytes: &[u8], n: usize) -> usize
         next = pair(out, next, bytes[i]);
     }
     next
+}
+
+// A number, and the space behind it.
+pub fn spaced(out: &mut [u8], at: usize, n: u64) -> usize
+    ensures { λ r. ⌜ Writes (spacedOf n) (now (out .entry)) at (now (out .exit)) r ⌝ }
+{
+    let next = decimal(out, at, n);
+    byte(out, next, 32)
+}
+
+// A reply's `count` bits in whole bytes, or `-` where it has none.
+pub fn reply(out: &mut [u8], at: usize, bytes: &[u8], count: usize) -> usize
+    ensures { λ r. ⌜ Writes (replyOf count (now (bytes .entry))) (now (out .entry)) at (now (out .exit)) r ⌝ }
+{
+    if count == 0 {
+        return byte(out, at, 45);
+    }
+    hex(out, at, bytes, (count - 1) / 8 + 1)
 }
 
 fn pair(out: &mut [u8], at: usize, b: u8) -> usize
