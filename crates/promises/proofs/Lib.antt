@@ -18,3 +18,4 @@ pub mod Computed
 pub mod Copied
 pub mod Leaks
 pub mod LeaksData
+pub mod Tied
