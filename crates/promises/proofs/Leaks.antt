@@ -2,10 +2,10 @@
 use mathlib.Core.Path.{_≡_, refl, sym, ap, subst, _∙_}
 use mathlib.Core.Bool.{Bool, true, false, not, true≢false}
 use mathlib.Core.List.{List, [], _∷_}
-use Prim.Native.Nat.{ℕ}
+use Prim.Native.Nat.{ℕ, _+_, _≤_, _<_}
 use native.Mathlib.Omega.{arith}
 use lib.Dec.{eqb}
-use lib.ListN.{drop, getD, replicate}
+use lib.ListN.{length, take, drop, getD, replicate}
 use borrow.Author.Tests.{ne-eqb}
 use Rattle.bits.specs.Bits.{bitsOf, digit, numOf}
 use Rattle.bits.specs.Bytes.{bitsOfBytes, bytesOf, padded, fieldOf}
@@ -23,7 +23,7 @@ use Rattle.suite.specs.TagWork.{resetTag, begunTag, challenged, failed, keyIn, 
 use Rattle.promises.specs.Machines.{Given, Command}
 use Rattle.promises.specs.Ours.{tagGiven, tagCommand}
 use Rattle.promises.specs.Demand3 as Demand3
-use Rattle.promises.specs.Demand3.{Standing, together, Claimed, Silent, WholeAlike, AlikeCommands, Demand3}
+use Rattle.promises.specs.Demand3.{Standing, together, Claimed, Silent, WholeAlike, publicBits, eightBits, AlikeCommands, Demand3}
 use Rattle.promises.specs.Wrong.{onMismatch, withInput, leavesInput, agreed, expected, withPlace, keepsPlace}
 use Rattle.promises.proofs.Public.{inputOf}
 use Rattle.promises.proofs.Refuted.{book, buffer}
@@ -74,34 +74,33 @@ mismatch x e = rw (proving x, no-options x, e) refl
 
 -- ---- two wrong guesses are alike in all public parts: so the whole answers are
 
-alike-guesses : (x y : ℕ) → AlikeCommands 0 (guess x) (guess y) buffer buffer
-unfolding bitsOfBytes bitsOf digit
-alike-guesses x y = record {
+abbrev pub withPayload : Command → List ℕ → Command
+withPayload c payload = record { kind = c .kind; payload = payload; count = c .count; features = c .features; book = c .book; number = c .number }
+
+-- commands that differ in their payloads alone
+pub alike-but : (w : ℕ) (c : Command) (payload b : List ℕ) → length (c .payload) ≡ length payload
+    → (c .kind ≡ 0 → take (publicBits (c .count)) (bitsOfBytes (c .payload)) ≡ take (publicBits (c .count)) (bitsOfBytes payload))
+    → ((c .kind ≡ 0 → ⊥) → 0 < w → 8 + w ≤ c .count → eightBits w c ≡ eightBits w (withPayload c payload))
+    → AlikeCommands w c (withPayload c payload) b b
+alike-but w c payload b size authentication zeros = record {
   kind = refl;
   count = refl;
-  size = refl;
+  size = size;
   room = refl;
   features = refl;
   number = refl;
   bookSize = refl;
   keyIds = refl;
-  authentication = λ k. refl;
-  zeros = λ k w c. absurd (k refl);
+  authentication = authentication;
+  zeros = zeros;
 }
 
+alike-guesses : (x y : ℕ) → AlikeCommands 0 (guess x) (guess y) buffer buffer
+unfolding bitsOfBytes bitsOf digit
+alike-guesses x y = alike-but 0 (guess x) (guess y .payload) buffer refl (λ k. refl) (λ k w c. absurd (k refl))
+
 pub same-alike : (w : ℕ) (c : Command) (b : List ℕ) → AlikeCommands w c c b b
-same-alike w c b = record {
-  kind = refl;
-  count = refl;
-  size = refl;
-  room = refl;
-  features = refl;
-  number = refl;
-  bookSize = refl;
-  keyIds = refl;
-  authentication = λ k. refl;
-  zeros = λ k p q. refl;
-}
+same-alike w c b = alike-but w c (c .payload) b refl (λ k. refl) (λ k p q. refl)
 
 module _ (change : Tag → Command → List ℕ → Given Tag → Given Tag) (d : Demand3 (onMismatch change)) (x y : ℕ) (u : Wrong x) (v : Wrong y) where
   abbrev given : ℕ → Given Tag

@@ -36,7 +36,7 @@ use Rattle.promises.specs.Wrong.{leavesDecrypted}
 use Rattle.promises.proofs.Delivered.{field-skip, field-whole}
 use Rattle.promises.proofs.Public.{inputOf}
 use Rattle.promises.proofs.Refuted.{book, buffer}
-use Rattle.promises.proofs.Leaks.{called, call, same-alike}
+use Rattle.promises.proofs.Leaks.{called, call, alike-but, same-alike}
 
 -- ---- MA up to the open tag, with secure messages and a MAC of 32 bits
 
@@ -154,18 +154,9 @@ mismatch a m e = rw (receiving a m, wrong-mac a m e) refl
 
 alike-secrets : (m n : Bool) → AlikeCommands 32 (secret false m) (secret true n) buffer buffer
 unfolding zerosOf
-alike-secrets m n = record {
-  kind = refl;
-  count = refl;
-  size = refl;
-  room = refl;
-  features = refl;
-  number = refl;
-  bookSize = refl;
-  keyIds = refl;
-  authentication = λ k. absurd (omega (arith, k));
-  zeros = λ k p q. eqb-true _ _ (zeros-are false m) ∙ sym (eqb-true _ _ (zeros-are true n));
-}
+alike-secrets m n =
+    alike-but 32 (secret false m) (secret true n .payload) buffer refl (λ k. absurd (omega (arith, k)))
+    (λ k p q. eqb-true _ _ (zeros-are false m) ∙ sym (eqb-true _ _ (zeros-are true n)))
 
 abbrev left : Bool → List ℕ
 left a = shown (dataOf Mac32 true (a ∷ []) (ready .session)) buffer

@@ -22,7 +22,7 @@ use Rattle.suite.specs.Messages.{storedWidth, dataBits}
 use Rattle.suite.specs.TagRules as Rules
 use Rattle.suite.specs.TagRules.{Face, faceOf, rowOf, fresh, soundOf, shownOf, beyondOf, commandPlan, workOf, planFrom, Response, responseChecks, responseVerdict}
 use Rattle.suite.specs.TagWork.{Result, bareTag, closedTag, keptBy, closedBy, startedBy, startOf, provedBy, proveOf, receivedBy, receiveOf, sendOf, carryOf, commandOf, respondOf, responseOf}
-use Rattle.suite.proofs.Plans.{or-false, Passed, passed}
+use Rattle.suite.proofs.Plans.{or-false, Passed, passed, of-cond, cond-same, by-verdict}
 use Rattle.suite.proofs.Layouts.{length-proof, length-mutual}
 use Rattle.suite.proofs.Replies.{sent-bits, received-bits}
 use Rattle.promises.specs.Machines.{Message}
@@ -45,14 +45,6 @@ keptIn (Keep a) = true
 keptIn (Close a) = false
 keptIn Go = false
 
-pub of-cond : (f : Verdict → Bool) (b : Bool) (x y : Verdict) → f (cond b x y) ≡ cond b (f x) (f y)
-of-cond f true x y = refl
-of-cond f false x y = refl
-
-pub cond-same : (b c : Bool) → cond b c c ≡ c
-cond-same true c = refl
-cond-same false c = refl
-
 not-ten : (c : Checks) → tenIn (verdictOf c) ≡ false
 unfolding verdictOf closingOf
 not-ten c = simp (of-cond tenIn, cond-same)
@@ -61,19 +53,14 @@ closed-kept : (c : Checks) → c .error ≡ true → keptIn (verdictOf c) ≡ tr
 unfolding verdictOf closingOf
 closed-kept c h = rw h (simp (of-cond keptIn, cond-same))
 
--- what a call does for each verdict
-by-verdict : (P : Verdict → Type 0) (c : Checks) → ((a : Answer) → ten a ≡ false → P (Keep a))
+-- what a call does for each verdict: only an open state is closed
+by-order : (P : Verdict → Type 0) (c : Checks) → ((a : Answer) → ten a ≡ false → P (Keep a))
     → ((a : Answer) → ten a ≡ false → c .error ≡ false → P (Close a)) → (Passed c → P Go) → P (verdictOf c)
-by-verdict P c keep close go = at (verdictOf c) refl (not-ten c)
+by-order P c keep close go = by-verdict P tenIn c (not-ten c) keep (λ a e n. close a n (unclosed (c .error) refl (ap keptIn e))) (λ e. go (passed c e))
   where
     unclosed : (b : Bool) → c .error ≡ b → keptIn (verdictOf c) ≡ false → c .error ≡ false
     unclosed true e k = absurd (true≢false (sym (closed-kept c e) ∙ k))
     unclosed false e k = e
-
-    at : (v : Verdict) → verdictOf c ≡ v → tenIn v ≡ false → P v
-    at (Keep a) e n = keep a n
-    at (Close a) e n = close a n (unclosed (c .error) refl (ap keptIn e))
-    at Go e n = go (passed c e)
 
 -- ---- what two calls may give
 
@@ -184,7 +171,7 @@ module _ (s t : Tag) (f : faceOf s ≡ faceOf t) (sound : soundOf s ≡ true) (s
         let p = shownOf (s .width) i in
         let w = workOf (rowOf (s .name)) (i .kind) in
         rw (planned s i (faceOf s) sound refl, planned t j (faceOf s) sound′ (sym f), ← plan-same s sound p (shownOf (s .width) j) a)
-        (by-verdict (λ (v : Verdict). Agree s t (carryOf (planFrom v w) s i) (carryOf (planFrom v w) t j))
+        (by-order (λ (v : Verdict). Agree s t (carryOf (planFrom v w) s i) (carryOf (planFrom v w) t j))
         (checked s p) kept-agree closed-agree (λ c. worked (c .error) (work-worked (eqb (i .kind) 0) (fresh (rowOf (s .name))) refl c)))
 
   module _ (c d : Message) (b e : List ℕ) (a : AlikeResponses c d b e) where
@@ -207,5 +194,5 @@ module _ (s t : Tag) (f : faceOf s ≡ faceOf t) (sound : soundOf s ≡ true) (s
         let checks : Message → ℕ → Checks = λ m n. responseChecks true (rowOf (s .name)) (faceOf s) (m .kind) (beyondOf (m .payload) (m .count)) (m .count) n in
         let same : verdictOf (checks d (length e)) ≡ verdictOf (checks c (length b)) = cc in
         rw (responded s (spokenOf c b) (faceOf s) sound refl, responded t (spokenOf d e) (faceOf s) sound′ (sym f), same)
-        (by-verdict (λ (v : Verdict). Agree s t (respondOf v s (spokenOf c b)) (respondOf v t (spokenOf d e)))
+        (by-order (λ (v : Verdict). Agree s t (respondOf v s (spokenOf c b)) (respondOf v t (spokenOf d e)))
         (checks c (length b)) kept-agree closed-agree (λ p. worked (p .error) (send-worked (or-false _ _ (or-false _ _ (p .argument) .0) .0))))

@@ -1,5 +1,5 @@
 -- What a plan tells: every check before the work has passed. Assumes nothing.
-use mathlib.Core.Path.{_≡_, refl, sym, ap, subst, _∙_}
+use mathlib.Core.Path.{_≡_, refl, sym, ap, _∙_}
 use mathlib.Core.Bool.{Bool, true, false, not, cond, _&&_, _||_, true≢false}
 use Prim.Native.Nat.{ℕ, _+_, _*_, _≤_}
 use native.Mathlib.Omega.{arith}
@@ -19,9 +19,9 @@ use Rattle.suite.specs.declared.Verdict.the-variants.{Keep, Close, Go}
 use Rattle.suite.specs.declared.Plan.{Plan}
 use Rattle.suite.specs.declared.Plan.the-variants as Plans
 use Rattle.suite.specs.Answers.{verdictOf, closingOf}
-use Rattle.suite.specs.Payloads.{mac64, securing}
+use Rattle.suite.specs.Payloads.{mac64}
 use Rattle.suite.specs.Messages.{storedWidth}
-use Rattle.suite.specs.TagRules.{rowOf, soundOf, Face, faceOf, commandChecks, commandPlan, workOf, planFrom, fresh, wrongLength, lengthFits, kindWanted, widthWanted, flagsFit, optionsFit, wordsFit, emptyWhere, responseChecks, responseVerdict}
+use Rattle.suite.specs.TagRules.{rowOf, soundOf, Face, faceOf, commandChecks, commandPlan, workOf, planFrom, fresh, lengthFits, kindWanted, widthWanted, flagsFit, optionsFit, wordsFit, emptyWhere, responseChecks, responseVerdict}
 
 -- ---- Bool
 
@@ -85,6 +85,27 @@ passed c e =
     let l = past (c .key) _ _ refl (k .1) in
     let m = past (c .support) _ _ refl (l .1) in
     record { state = a .0; buffer = b .0; argument = d .0; book = f .0; error = g .0; work = h .0; kind = i .0; length = j .0; step = k .0; key = l .0; support = m .0 }
+
+-- ---- what the order says
+
+-- a test of verdicts goes into each of its choices
+pub of-cond : (f : Verdict → Bool) (b : Bool) (x y : Verdict) → f (cond b x y) ≡ cond b (f x) (f y)
+of-cond f true x y = refl
+of-cond f false x y = refl
+
+pub cond-same : (b c : Bool) → cond b c c ≡ c
+cond-same true c = refl
+cond-same false c = refl
+
+-- what a call does for each verdict, where the test f is false of what the order says
+pub by-verdict : (P : Verdict → Type 0) (f : Verdict → Bool) (c : Checks) → f (verdictOf c) ≡ false → ((a : Answer) → f (Keep a) ≡ false → P (Keep a))
+    → ((a : Answer) → verdictOf c ≡ Close a → f (Close a) ≡ false → P (Close a)) → (verdictOf c ≡ Go → P Go) → P (verdictOf c)
+by-verdict P f c h keep close go = at (verdictOf c) refl h
+  where
+    at : (v : Verdict) → verdictOf c ≡ v → f v ≡ false → P v
+    at (Keep a) e n = keep a n
+    at (Close a) e n = close a e n
+    at Go e n = go e
 
 -- ---- a command's plan
 

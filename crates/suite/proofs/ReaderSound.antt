@@ -25,7 +25,7 @@ use Rattle.suite.specs.ReaderRules.{stageRow, readerSound, readerFace, b
 use Rattle.suite.specs.ReaderWork.{ReaderResult, emptyReader, filledReader, movedReader, readerKept, readerClosed, begunBy, beginBy, beginOf, answerSession, comparedBy, compareOf, answerOf, withEngine, confirmOf, repliedBy, repliedOf, readerSent, readerReceivedBy, readerReceived, readerBy, sendingOf, receivingOf}
 use Rattle.suite.proofs.Plans.{and-left, or-false, not-true, width-stored}
 use Rattle.suite.proofs.ReaderPlans.{sound-options, sound-method, reader-width}
-use Rattle.suite.proofs.Sound.{either, filled-fits, message-fits, width-chosen, isEight, by-verdict}
+use Rattle.suite.proofs.Sound.{either, filled-fits, message-fits, width-chosen, isEight, by-order}
 
 -- ---- the empty states
 
@@ -135,7 +135,7 @@ module _ (r : Reader) (s : readerSound r ≡ true) where
 begin-good : (r : Reader) (method options keyid number : ℕ) (book : List ℕ) (room : ℕ) → readerSound r ≡ true → Good (beginOf r method options keyid number book room)
 unfolding beginOf beginVerdict beginBy readerSound
 begin-good r method options keyid number book room s =
-    by-verdict (λ (v : Verdict). Good (beginBy v r (begunBy method options keyid number book)))
+    by-order (λ (v : Verdict). Good (beginBy v r (begunBy method options keyid number book)))
     (beginChecks (readerSound r) (stageRow (r .stage)) method options number (Book.soundOf book) (Book.knownOf keyid book) room) (ap not s) (kept-good r s) (kept-good r s)
     (λ c. let support = or-false _ _ (c .support) in
     record {
@@ -148,21 +148,21 @@ unfolding repliedOf replyPlan repliedBy
 replied-good r payload count room s =
     let row = stageRow (r .stage) in
     let l = bitsOfBytes payload in
-    by-verdict (λ (v : Verdict). Good (repliedBy (replyPlanFrom v (replyWork row (r .method) (fieldOf 0 1 l))) r l))
+    by-order (λ (v : Verdict). Good (repliedBy (replyPlanFrom v (replyWork row (r .method) (fieldOf 0 1 l))) r l))
     (replyChecks (readerSound r) row (readerFace r) (beyondOf payload count) count (fieldOf 0 8 l) (fieldOf 0 1 l) room) (ap not s) (kept-good r s) closed-good
     (λ c. work-good r s l (not-true _ (c .work)) (row .asked) (eqb (r .method) 0) (eqb (fieldOf 0 1 l) 1) (eqb (r .method) 1) refl refl)
 
 sending-good : (r : Reader) (kind : ℕ) (payload : List ℕ) (count room : ℕ) → readerSound r ≡ true → Good (sendingOf r kind payload count room)
 unfolding sendingOf sendVerdict readerBy readerSent sentSession
 sending-good r kind payload count room s =
-    by-verdict (λ (v : Verdict). Good (readerBy v r (readerSent r kind payload count)))
+    by-order (λ (v : Verdict). Good (readerBy v r (readerSent r kind payload count)))
     (sendChecks (readerSound r) (stageRow (r .stage)) (readerFace r) kind (beyondOf payload count) count room) (ap not s) (kept-good r s) closed-good
     (λ c. record { reader = message-sound r s _ (talking r 0 kind (not-true _ (c .work))); answer = refl })
 
 receiving-good : (r : Reader) (kind : ℕ) (payload : List ℕ) (count room : ℕ) → readerSound r ≡ true → Good (receivingOf r kind payload count room)
 unfolding receivingOf receiveVerdict readerBy readerReceived
 receiving-good r kind payload count room s =
-    by-verdict (λ (v : Verdict). Good (readerBy v r (readerReceived r kind payload count)))
+    by-order (λ (v : Verdict). Good (readerBy v r (readerReceived r kind payload count)))
     (receiveChecks (readerSound r) (stageRow (r .stage)) (readerFace r) kind (beyondOf payload count) count (zerosOf (r .width) count (bitsOfBytes payload)) room)
     (ap not s) (kept-good r s) closed-good (λ c. received-good _ r _ _ (message-sound r s _ (talking r 1 kind (not-true _ (c .work)))))
 

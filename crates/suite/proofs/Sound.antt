@@ -34,7 +34,7 @@ use Rattle.suite.specs.Payloads.{mac64, supports, supportsStart, methodI
 use Rattle.suite.specs.Messages.{chosenWidth, storedWidth, filledSession, nextKeystream, afterMessage, sentSession}
 use Rattle.suite.specs.TagRules.{rowOf, fresh, soundOf, flagsFit, widthWanted, optionsFit, wordsFit, emptyWhere, faceOf, Command, shownOf, commandChecks, commandPlan, workOf, planFrom, beyondOf, Response, responseChecks, responseVerdict}
 use Rattle.suite.specs.TagWork.{Result, resetTag, closedTag, openTag, withSession, keptBy, closedBy, startedBy, startOf, provedBy, proveOf, receivedBy, receiveOf, sendOf, carryOf, commandOf, respondOf, responseOf}
-use Rattle.suite.proofs.Plans.{and-left, not-true, Passed, passed, filled-row, width-stored, wanted, sound-width}
+use Rattle.suite.proofs.Plans.{and-left, not-true, Passed, passed, of-cond, cond-same, by-verdict, filled-row, width-stored, wanted, sound-width}
 
 -- what holds of both holds of the one that is chosen
 pub either : {A : Type 0} (P : A → Type 0) (b : Bool) (x y : A) → P x → P y → P (cond b x y)
@@ -194,27 +194,14 @@ eightIn (Keep a) = isEight a
 eightIn (Close a) = isEight a
 eightIn Go = false
 
-eight-cond : (b : Bool) (x y : Verdict) → eightIn (cond b x y) ≡ cond b (eightIn x) (eightIn y)
-eight-cond true x y = refl
-eight-cond false x y = refl
-
-cond-same : (b c : Bool) → cond b c c ≡ c
-cond-same true c = refl
-cond-same false c = refl
-
 not-eight : (c : Checks) → c .state ≡ false → eightIn (verdictOf c) ≡ false
 unfolding verdictOf closingOf
-not-eight c h = rw h (simp (eight-cond, cond-same))
+not-eight c h = rw h (simp (of-cond eightIn, cond-same))
 
--- what the call does for each verdict
-pub by-verdict : (P : Verdict → Type 0) (c : Checks) → c .state ≡ false → ((a : Answer) → isEight a ≡ false → P (Keep a))
+-- what a call does to a sound state for each verdict
+pub by-order : (P : Verdict → Type 0) (c : Checks) → c .state ≡ false → ((a : Answer) → isEight a ≡ false → P (Keep a))
     → ((a : Answer) → isEight a ≡ false → P (Close a)) → (Passed c → P Go) → P (verdictOf c)
-by-verdict P c h keep close go = at (verdictOf c) refl (not-eight c h)
-  where
-    at : (v : Verdict) → verdictOf c ≡ v → eightIn v ≡ false → P v
-    at (Keep a) e n = keep a n
-    at (Close a) e n = close a n
-    at Go e n = go (passed c e)
+by-order P c h keep close go = by-verdict P eightIn c (not-eight c h) keep (λ a e. close a) (λ e. go (passed c e))
 
 -- ---- the calls
 
@@ -246,7 +233,7 @@ command-good : (t : Tag) (i : Command) → soundOf t ≡ true → Good (commandO
 unfolding commandOf commandPlan carryOf shownOf
 command-good t i s =
     let row = rowOf (t .name) in
-    by-verdict (λ (v : Verdict). Good (carryOf (planFrom v (workOf row (i .kind))) t i))
+    by-order (λ (v : Verdict). Good (carryOf (planFrom v (workOf row (i .kind))) t i))
     (commandChecks (soundOf t) row (faceOf t) (shownOf (t .width) i)) (ap not s) (kept-good t s) (closed-good t s)
     (λ c. work-good t s i c (eqb (i .kind) 0) (fresh row) refl)
 
@@ -254,7 +241,7 @@ response-good : (t : Tag) (i : Response) → soundOf t ≡ true → Good (respon
 unfolding responseOf responseVerdict respondOf sendOf sentSession
 response-good t i s =
     let row = rowOf (t .name) in
-    by-verdict (λ (v : Verdict). Good (respondOf v t i))
+    by-order (λ (v : Verdict). Good (respondOf v t i))
     (responseChecks (soundOf t) row (faceOf t) (i .kind) (beyondOf (i .payload) (i .count)) (i .count) (i .room)) (ap not s) (kept-good t s) (closed-good t s)
     (λ c. record { tag = message-sound t _ s (responds-filled (t .name) (not-true _ (c .work))) (c .error); answer = refl })
 
