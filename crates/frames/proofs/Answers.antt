@@ -17,7 +17,7 @@ use Rattle.frames.specs.declared.Written.{Written}
 use Rattle.frames.specs.declared.count.Counted.{Counted}
 use Rattle.frames.proofs.Cases.{cond-has}
 use Rattle.frames.proofs.Counts.{CountRead, count-read}
-use Rattle.frames.proofs.Tails.{sets-append}
+use Rattle.bits.proofs.Lists.{sets-append}
 
 -- ---- a count and a payload that are fine
 

@@ -1,20 +1,14 @@
 -- Runs of stores, and tails that are lent for them. Assumes nothing.
 use Prim.Native.Nat.{ℕ, suc, _+_, _-_, _≤_, _<_}
-use mathlib.Core.List.{List, [], _∷_, _++_, append-nil}
+use mathlib.Core.List.{List, [], _∷_, append-nil}
 use mathlib.Core.Path.{_≡_, refl, ap, sym, _∙_}
 use native.Mathlib.Nat.{add-zero, add-suc, zero-add}
 use native.Mathlib.Numerals.{add-one}
 use native.Mathlib.Omega.{arith}
 use lib.ListN.{length, getD, take, drop, set, length-drop, take-append-drop, drop-of-length-le}
 use lib.Seq.{sets, length-take-le, take-all, take-suc, take-set-le, drop-set-add}
+use Rattle.bits.proofs.Lists.{sets-append}
 use borrow.Rule.Slice.PartMut.{midOf, putMid}
-
--- one run after another
-pub sets-append : (l : List ℕ) (i : ℕ) (ys zs : List ℕ) → sets l i (ys ++ zs) ≡ sets (sets l i ys) (i + length ys) zs
-sets-append l i [] zs = ap (λ (k : ℕ). sets l k zs) (sym (add-zero i))
-sets-append l i (y ∷ ys) zs =
-    let e : suc i + length ys ≡ i + suc (length ys) = omega arith in
-    sets-append (set l i y) (suc i) ys zs ∙ ap (λ (k : ℕ). sets (sets (set l i y) (suc i) ys) k zs) e
 
 take-sets : (n : ℕ) (l : List ℕ) (i : ℕ) (ys : List ℕ) → n ≤ i → take n (sets l i ys) ≡ take n l
 take-sets n l i [] h = refl

@@ -1,24 +1,19 @@
 -- Texts that are written one behind the other. Assumes nothing.
-use Prim.Native.Nat.{ℕ, suc, _+_, _-_, _≤_, min}
+use Prim.Native.Nat.{ℕ, suc, _+_, _≤_, min}
 use mathlib.Core.List.{List, [], _∷_, _++_}
 use mathlib.Core.Path.{_≡_, refl, ap, sym, _∙_}
 use native.Mathlib.Decide.{decLe}
-use native.Mathlib.Nat.{add-zero, min-eq-left}
+use native.Mathlib.Nat.{min-eq-left}
 use native.Mathlib.Omega.{arith}
-use lib.ListN.{length, take, set, length-append}
+use lib.ListN.{length, take, length-append}
 use lib.Seq.{sets, set-out, take-all, length-sets}
+use Rattle.bits.proofs.Lists.{sets-append}
 use Rattle.text.specs.Text.{Writes}
 
 -- stores past the end are dropped
 sets-out : (l : List ℕ) (i : ℕ) (vs : List ℕ) → length l ≤ i → sets l i vs ≡ l
 sets-out l i [] h = refl
 sets-out l i (v ∷ vs) h = rw (set-out l i v h) (sets-out l (suc i) vs (omega arith))
-
-sets-append : (l : List ℕ) (i : ℕ) (ys zs : List ℕ) → sets l i (ys ++ zs) ≡ sets (sets l i ys) (i + length ys) zs
-sets-append l i [] zs = ap (λ (k : ℕ). sets l k zs) (sym (add-zero i))
-sets-append l i (y ∷ ys) zs =
-    let e : suc i + length ys ≡ i + suc (length ys) = omega arith in
-    sets-append (set l i y) (suc i) ys zs ∙ ap (λ (k : ℕ). sets (sets (set l i y) (suc i) ys) k zs) e
 
 -- nothing is written where it is
 pub empty : (l : List ℕ) (at : ℕ) → Writes [] l at l at
