@@ -103,7 +103,8 @@ pub record Command : Type 0 where
 abbrev pub beyondOf : List ℕ → ℕ → Bool
 beyondOf bytes count = ltb (8 * length bytes) count
 
--- what a command shows: of the payload the fields of an authentication but its keystream bits, and whether the eight bits are zero
+-- what a command shows: of the payload the fields of an authentication but its keystream bits, and whether the eight bits are zero.
+-- Only an authentication has a KeyID to look for: in a message those bits are data
 unfoldable pub shownOf : ℕ → Command → Shown
 shownOf w i =
     let l = bitsOfBytes (i .payload) in
@@ -120,7 +121,7 @@ shownOf w i =
       keyid = keyIdIn l;
       zeros = zerosOf w (i .count) l;
       book = Book.soundOf (i .book);
-      known = Book.knownOf (keyIdIn l) (i .book);
+      known = eqb (i .kind) 0 && Book.knownOf (keyIdIn l) (i .book);
     }
 
 -- ---- what is refused, check by check

@@ -2,7 +2,7 @@
 ghost use mathlib.Core.Path.{_≡_};
 ghost use mathlib.Core.Bool.{true, false, not, cond, _&&_};
 ghost use Prim.Native.Nat.{_≤_, _<_, _^_};
-ghost use lib.Dec.{ltb};
+ghost use lib.Dec.{ltb, eqb};
 ghost use lib.ListN.{length};
 ghost use Rattle.suite.specs.TagRules.{rowOf, flagsFit, widthWanted, optionsFit, wordsFit, emptyEngine, emptyWhere, soundOf, faceOf, Command, shownOf, lengthFits, kindWanted, stepWanted, keyFits, optionsSupported, commandChecks, workOf, planFrom, commandPlan, wrongLength, responseVerdict};
 ghost use Rattle.suite.specs.Messages.{zerosOf};
@@ -166,7 +166,7 @@ pub(crate) fn shown(
     let keyid = payload::small_field(payload, 8, 8);
     let zeros = zeros(width, payload, count);
     let sound = book::sound(book);
-    let known = known(book, keyid);
+    let known = known_to(kind, book, keyid);
     Shown {
         kind,
         count,
@@ -191,6 +191,13 @@ pub(crate) fn zeros(width: u8, payload: &[u8], count: usize) -> bool
     let at = message::data_bits(width as usize, count);
     let x = bits::field(payload, at, 8);
     x == 0
+}
+
+// Where an authentication has its KeyID, a message has data, which must choose no search.
+fn known_to(kind: u8, book: &[u8], keyid: u8) -> bool
+    ensures { λ r. ⌜ r ≡ (eqb kind 0 && knownOf keyid (now (book .entry))) ⌝ }
+{
+    if kind == 0 { known(book, keyid) } else { false }
 }
 
 pub(crate) fn known(book: &[u8], keyid: u8) -> bool

@@ -25,8 +25,8 @@ zeros-requires c κs = search needs
 sound-requires : tie.Need-sound-requires
 sound-requires c κs = search needs
 
-known-requires : tie.Need-known-requires
-known-requires c κs = search needs
+known-to-requires : tie.Need-known-to-requires
+known-to-requires c κs = search needs
 
 returns : tie.Need-returns
 unfolding shownOf
@@ -43,5 +43,5 @@ shown-spec =
     small-field-requires-4
     zeros-requires
     sound-requires
-    known-requires
+    known-to-requires
     returns)
