@@ -12,6 +12,7 @@ pub mod Refusing
 pub mod Answering
 pub mod Worked
 pub mod Determined
+pub mod DeterminedCalls
 pub mod Sessions
 pub mod Refuted
 pub mod Computed

@@ -1,0 +1,4 @@
+-- Laws of `capi`.
+pub mod Numbers
+pub mod Calls
+pub mod Back

@@ -1,0 +1,47 @@
+-- `capi::block::reader` meets its contract.
+use Rattle.capi.specs.Blocks.{readerIn}
+use borrow.Author.Needs.{needs}
+use Rattle.capi.proofs.block.reader.Statement.{statement}
+use Rattle.capi.proofs.block.reader.Tie as tie
+
+byte-at-requires : tie.Need-byte-at-requires
+byte-at-requires c κs = search needs
+
+stage-requires : tie.Need-stage-requires
+stage-requires c κs = search needs
+
+session-requires : tie.Need-session-requires
+session-requires c κs = search needs
+
+byte-at-requires-2 : tie.Need-byte-at-requires-2
+byte-at-requires-2 c κs = search needs
+
+byte-at-requires-3 : tie.Need-byte-at-requires-3
+byte-at-requires-3 c κs = search needs
+
+byte-at-requires-4 : tie.Need-byte-at-requires-4
+byte-at-requires-4 c κs = search needs
+
+number-requires : tie.Need-number-requires
+number-requires c κs = search needs
+
+byte-at-requires-5 : tie.Need-byte-at-requires-5
+byte-at-requires-5 c κs = search needs
+
+returns : tie.Need-returns
+unfolding readerIn
+returns c = cc
+
+pub reader-spec : {M : Type 1} → statement M
+reader-spec =
+    tie.close
+    (tie.spec
+    byte-at-requires
+    stage-requires
+    session-requires
+    byte-at-requires-2
+    byte-at-requires-3
+    byte-at-requires-4
+    number-requires
+    byte-at-requires-5
+    returns)

@@ -1,0 +1,53 @@
+-- `capi::kusarehyon_tag_reset` meets its contract.
+use borrow.Author.Tests.{eq-eqb, ne-eqb}
+use Rattle.capi.specs.Calls.{tagResetCalled}
+use Rattle.capi.proofs.Calls.{refused, stepped}
+use borrow.Author.Needs.{needs}
+use Rattle.capi.proofs.kusarehyon_tag_reset.Statement.{statement}
+use Rattle.capi.proofs.kusarehyon_tag_reset.Tie as tie
+
+refused-requires : tie.Need-refused-requires
+refused-requires c κs = search needs
+
+same-length : tie.Need-same-length
+same-length c = search needs
+
+returns : tie.Need-returns
+unfolding tagResetCalled
+returns c =
+    let f = c .before .before in
+    let t = f .before .before .before in
+    rw (ne-eqb _ _ (t .if1 .taken)) (refused _ _ _ _ _ _ (f .refused .ensures))
+
+reset-requires : tie.Need-reset-requires
+reset-requires c κs = search needs
+
+stepped-requires : tie.Need-stepped-requires
+stepped-requires c κs = search needs
+
+same-length-2 : tie.Need-same-length-2
+same-length-2 c = search needs
+
+same-length-3 : tie.Need-same-length-3
+same-length-3 c = search needs
+
+returns-2 : tie.Need-returns-2
+unfolding tagResetCalled
+returns-2 c =
+    let p = c .before .before in
+    let m = p .before .before .before .before .before in
+    let e = m .before .before in
+    rw (eq-eqb _ _ (e .if1 .left)) (stepped _ _ _ _ _ _ _ (m .reset .ensures) (p .stepped .ensures))
+
+pub kusarehyon-tag-reset-spec : {M : Type 1} → statement M
+kusarehyon-tag-reset-spec =
+    tie.close
+    (tie.spec
+    refused-requires
+    same-length
+    returns
+    reset-requires
+    stepped-requires
+    same-length-2
+    same-length-3
+    returns-2)

@@ -1,0 +1,3 @@
+-- What the contracts of `capi` cite.
+pub mod Blocks
+pub mod Calls
