@@ -38,9 +38,8 @@ pub fn to_number(bits: &[bool]) -> u64 {
 
 /// The number in bits `from .. from + count`; a bit that is not there reads as 0.
 pub fn field(bits: &[bool], from: usize, count: usize) -> u64 {
-    let found: Vec<bool> = (from..from + count)
-        .map(|i| bits.get(i).copied().unwrap_or(false))
-        .collect();
+    let found: Vec<bool> =
+        (from..from + count).map(|i| bits.get(i).copied().unwrap_or(false)).collect();
     to_number(&found)
 }
 
@@ -55,8 +54,8 @@ mod tests {
 
     #[test]
     fn first_bit_is_highest() {
-        assert_eq!(from_bytes(&[0x80], 8)[0], true);
-        assert_eq!(from_bytes(&[0x01], 8)[7], true);
+        assert!(from_bytes(&[0x80], 8)[0]);
+        assert!(from_bytes(&[0x01], 8)[7]);
         assert_eq!(to_bytes(&[true]), vec![0x80]);
         assert_eq!(to_number(&from_number(0x2345, 16)), 0x2345);
         assert_eq!(field(&from_bytes(&[0x12, 0x34], 16), 4, 8), 0x23);

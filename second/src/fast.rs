@@ -144,10 +144,7 @@ impl Cipher for Fast {
     fn set_up(key: &[u8; 16], reader: u64, tag: u64, ta: bool, ia: bool) -> Fast {
         let methods = ((ta as u128) << 31) | ((ia as u128) << 30);
         let numbers = ((reader as u128) << 80) | ((tag as u128) << 32);
-        Fast {
-            b: u128::from_be_bytes(*key),
-            s: (1 << 127) | numbers | methods | 0x3FFF_FFFE,
-        }
+        Fast { b: u128::from_be_bytes(*key), s: (1 << 127) | numbers | methods | 0x3FFF_FFFE }
     }
 
     fn start(key: &[u8; 16], reader: u64, tag: u64, ta: bool, ia: bool) -> Fast {

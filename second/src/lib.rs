@@ -1,7 +1,9 @@
 //! An independent second form of the tag suite: cipher, tag and reader
-//! machines, key book, host frames and the text of the program `tagrun`.
+//! machines, key book, host frames, lent blocks and the text of the program
+//! `tagrun`.
 
 pub mod bits;
+pub mod blocks;
 pub mod book;
 pub mod cipher;
 pub mod fast;

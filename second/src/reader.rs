@@ -330,6 +330,16 @@ impl<C: Cipher> Reader<C> {
 
 /// What the numbers of a reader's state stand for.
 pub const FIELDS: [&str; 12] = [
-    "stage", "method", "options", "keyid", "number", "width", "b first half", "b second half",
-    "s first half", "s second half", "accumulator", "register",
+    "stage",
+    "method",
+    "options",
+    "keyid",
+    "number",
+    "width",
+    "b first half",
+    "b second half",
+    "s first half",
+    "s second half",
+    "accumulator",
+    "register",
 ];

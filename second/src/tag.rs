@@ -16,8 +16,7 @@ pub enum Name {
     Ma2,
 }
 
-pub const NAMES: [Name; 6] =
-    [Name::CsReset, Name::Ta1, Name::Ia1, Name::Ia2, Name::Ma1, Name::Ma2];
+pub const NAMES: [Name; 6] = [Name::CsReset, Name::Ta1, Name::Ia1, Name::Ia2, Name::Ma1, Name::Ma2];
 
 impl Name {
     pub fn text(self) -> &'static str {
@@ -154,8 +153,7 @@ impl<C: Cipher> Tag<C> {
         match self.name {
             Name::Ta1 => kind == COMM_RESPONSE,
             Name::Ma2 => {
-                kind == COMM_RESPONSE
-                    || (kind == SECURE_RESPONSE && payloads::secure(self.options))
+                kind == COMM_RESPONSE || (kind == SECURE_RESPONSE && payloads::secure(self.options))
             }
             _ => false,
         }
@@ -205,10 +203,9 @@ impl<C: Cipher> Tag<C> {
         let bits = bits::from_bytes(payload, count);
         let by_kind = match kind {
             AUTH => self.auth_found(&bits, features, book),
-            COMM | SECURE => Found {
-                length: payloads::message_wrong(&bits, self.mac.width),
-                ..Found::default()
-            },
+            COMM | SECURE => {
+                Found { length: payloads::message_wrong(&bits, self.mac.width), ..Found::default() }
+            }
             _ => Found::default(),
         };
         let found = Found {
@@ -375,6 +372,18 @@ impl<C: Cipher> Tag<C> {
 
 /// What the numbers of a tag's state stand for.
 pub const FIELDS: [&str; 14] = [
-    "name", "init", "ta", "ia", "error", "keyid", "options", "width", "b first half",
-    "b second half", "s first half", "s second half", "accumulator", "register",
+    "name",
+    "init",
+    "ta",
+    "ia",
+    "error",
+    "keyid",
+    "options",
+    "width",
+    "b first half",
+    "b second half",
+    "s first half",
+    "s second half",
+    "accumulator",
+    "register",
 ];

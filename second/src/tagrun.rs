@@ -50,9 +50,9 @@ pub fn run<C: Cipher>(input: &[u8]) -> String {
         let payload = frames::payload(rest);
         let mut reply = [0; REPLY_BYTES];
         let (answer, count) = match frame.kind {
-            0..=3 => tag.command(
-                frame.kind, payload, frame.count, FEATURES, &BOOK, NUMBER, &mut reply,
-            ),
+            0..=3 => {
+                tag.command(frame.kind, payload, frame.count, FEATURES, &BOOK, NUMBER, &mut reply)
+            }
             4 | 5 => tag.response(frame.kind, payload, frame.count, &mut reply),
             _ => tag.reset(&mut reply),
         };

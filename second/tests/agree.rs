@@ -143,8 +143,16 @@ fn next_call(random: &mut Xorshift, pair: &Pair<Fast>, said: &Said) -> Call {
     };
     if random.one_in(30) {
         let any = [
-            Call::TagReset, Call::TagClose, Call::ReaderReset, to_tag(kind), to_tag(0), begin,
-            take, response, send, receive(kind),
+            Call::TagReset,
+            Call::TagClose,
+            Call::ReaderReset,
+            to_tag(kind),
+            to_tag(0),
+            begin,
+            take,
+            response,
+            send,
+            receive(kind),
         ];
         return any[random.below(10) as usize].clone();
     }

@@ -23,7 +23,7 @@ fn counts() {
         let mut frame = vec![1];
         frame.extend(hex(text));
         let start = frame.len();
-        frame.extend(vec![0; (count + 7) / 8]);
+        frame.extend(vec![0; count.div_ceil(8)]);
         let end = frame.len();
         frame.extend([0xFF, 0xFF]);
         assert_eq!(scan(&frame), Scan { refusal: 0, kind: 1, count, start, end });
@@ -100,7 +100,7 @@ fn what_is_written_is_read() {
     for _ in 0..2000 {
         let kind = random.below(7) as u8;
         let count = if kind == 6 { 0 } else { random.below(2121) as usize };
-        let mut data = random.bytes((count + 7) / 8);
+        let mut data = random.bytes(count.div_ceil(8));
         if count % 8 != 0 {
             data[count / 8] &= !(0xFF >> (count % 8));
         }

@@ -275,9 +275,8 @@ fn message_refusals() {
         let (mut reader, tag) = opened::<Fast>(method, options);
         let width = tag.mac.width as usize;
         let sent = send(&mut reader, kind, &[0xC3; 256], 21);
-        let call = |payload: Vec<u8>, count: usize| {
-            move |t: &mut T| command(t, kind, &payload, count, 0)
-        };
+        let call =
+            |payload: Vec<u8>, count: usize| move |t: &mut T| command(t, kind, &payload, count, 0);
         let long = vec![0u8; 400];
         closes(&tag, 6, call(long.clone(), 0));
         closes(&tag, 6, call(long.clone(), 7 + width));

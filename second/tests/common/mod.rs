@@ -146,10 +146,7 @@ pub fn opened<C: Cipher>(method: u8, options: u8) -> (Reader<C>, Tag<C>) {
 
 /// A reader with the step 0 response it has not yet taken, and the tag.
 #[allow(clippy::type_complexity)]
-pub fn after_step_0<C: Cipher>(
-    method: u8,
-    options: u8,
-) -> ((Reader<C>, Option<Vec<u8>>), Tag<C>) {
+pub fn after_step_0<C: Cipher>(method: u8, options: u8) -> ((Reader<C>, Option<Vec<u8>>), Tag<C>) {
     let mut reader = Reader::fresh();
     let mut tag = Tag::fresh();
     let step_0 = done(begin(&mut reader, method, options), 64);
