@@ -50,6 +50,9 @@ fn main() -> ExitCode {
         println!("compare: too few rounds, not reached: {missing:?}");
         return ExitCode::FAILURE;
     }
-    println!("compare: {} calls, all alike", comparison.calls());
+    println!(
+        "compare: seed {seed}, {} calls, all alike",
+        comparison.calls()
+    );
     ExitCode::SUCCESS
 }

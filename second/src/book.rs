@@ -5,7 +5,7 @@ pub const MOST_RECORDS: usize = 16;
 
 /// Refusal 1: "book not whole 17-byte records, over 16, or KeyIDs not rising".
 pub fn sound(book: &[u8]) -> bool {
-    if book.len() % RECORD_BYTES != 0 {
+    if !book.len().is_multiple_of(RECORD_BYTES) {
         return false;
     }
     if book.len() / RECORD_BYTES > MOST_RECORDS {

@@ -49,7 +49,7 @@ fn count_refused(kind: u8, count: usize) -> bool {
 
 /// "22 unused bits not zero", of a payload that is long enough.
 fn unused_bits_set(payload: &[u8], count: usize) -> bool {
-    count % 8 != 0 && payload[count / 8] & (0xFF >> (count % 8)) != 0
+    !count.is_multiple_of(8) && payload[count / 8] & (0xFF >> (count % 8)) != 0
 }
 
 /// "Refusals in this order: 23 ...; 21 ...; 20 ...; 22 ..."

@@ -19,7 +19,7 @@ fn refusal(text: &str) -> u8 {
 /// are 21."
 #[test]
 fn counts() {
-    for (count, text) in [(80, "50"), (127, "7F"), (128, "8001"), (2120, "C810"), (0, "00")] {
+    for (count, text) in [(80usize, "50"), (127, "7F"), (128, "8001"), (2120, "C810"), (0, "00")] {
         let mut frame = vec![1];
         frame.extend(hex(text));
         let start = frame.len();

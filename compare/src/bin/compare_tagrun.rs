@@ -58,7 +58,7 @@ fn main() -> ExitCode {
         Ok(reached) => {
             let lines: u64 = reached.values().sum();
             println!("answers {reached:?}");
-            println!("compare_tagrun: {inputs} inputs, {lines} lines, all alike");
+            println!("compare_tagrun: seed {seed}, {inputs} inputs, {lines} lines, all alike");
             ExitCode::SUCCESS
         }
         Err(difference) => {
