@@ -197,6 +197,12 @@ impl Tag {
     // A call with a shorter reply buffer is refused with 2.
     pub const REPLY_BYTES: usize = 265;
 
+    // No message has more data bits.
+    pub const DATA_BITS: usize = 2048;
+
+    // A number at or above it is refused with 11.
+    pub const NUMBER_LIMIT: u64 = 1 << 48;
+
     // The state after a reset. It is never refused, and zeroes the reply area, however short.
     pub fn reset(reply: &mut [u8]) -> Step
         ensures { λ r. ⌜ Gives resetOf r (now (reply .entry)) (now (reply .exit)) ⌝ }

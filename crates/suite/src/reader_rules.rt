@@ -51,7 +51,7 @@ fn sound(r: Reader) -> bool
         & (r.width == want)
         & words
         & (r.method < 3)
-        & (r.number < 281474976710656);
+        & (r.number < Tag::NUMBER_LIMIT);
     numbers & !(row.proving & (r.method == 0)) & (row.asked | row.proving | row.opened | empty)
 }
 
@@ -97,7 +97,7 @@ pub(crate) fn begin_verdict(
     let checks = Checks {
         state: !ok,
         buffer: room < Tag::REPLY_BYTES,
-        argument: 281474976710656 <= number,
+        argument: Tag::NUMBER_LIMIT <= number,
         book: !book,
         error: false,
         work: !row.idle,
@@ -213,7 +213,7 @@ pub(crate) fn send_verdict(r: Reader, kind: u8, beyond: bool, count: usize, room
     let checks = Checks {
         state: !ok,
         buffer: room < Tag::REPLY_BYTES,
-        argument: beyond | !((kind == 1) | (kind == 2)) | (2048 < count),
+        argument: beyond | !((kind == 1) | (kind == 2)) | (Tag::DATA_BITS < count),
         book: false,
         error: false,
         work: !may,

@@ -211,7 +211,7 @@ pub(crate) fn length_fits(width: u8, count: usize) -> bool
     ensures { λ r. ⌜ r ≡ lengthFits width count ⌝ }
 {
     let w = width as usize;
-    (8 + w <= count) & (count <= 2048 + 8 + w)
+    (8 + w <= count) & (count <= Tag::DATA_BITS + 8 + w)
 }
 
 fn kind_wanted(row: Row, options: u8, kind: u8) -> bool
@@ -266,7 +266,7 @@ fn command_checks(ok: bool, row: Row, t: Tag, p: Shown) -> Checks
     Checks {
         state: !ok,
         buffer: p.room < Tag::REPLY_BYTES,
-        argument: p.beyond | (281474976710656 <= p.number) | (3 < p.kind),
+        argument: p.beyond | (Tag::NUMBER_LIMIT <= p.number) | (3 < p.kind),
         book: !p.book,
         error: t.error,
         work: row.idle & (p.kind == 1),
@@ -326,7 +326,7 @@ pub(crate) fn response_verdict(t: Tag, kind: u8, beyond: bool, count: usize, roo
     let checks = Checks {
         state: !ok,
         buffer: room < Tag::REPLY_BYTES,
-        argument: beyond | !((kind == 4) | (kind == 5)) | (2048 < count),
+        argument: beyond | !((kind == 4) | (kind == 5)) | (Tag::DATA_BITS < count),
         book: false,
         error: t.error,
         work: !row.responds,
