@@ -5,6 +5,7 @@ pub mod Talks
 pub mod Opening
 pub mod Delivery
 pub mod Public
+pub mod Closed
 pub mod SilenceStep
 pub mod Silence
 pub mod Fitting

@@ -25,6 +25,7 @@ use Rattle.suite.specs.TagWork.{Result, bareTag, closedTag, keptBy, closedBy, s
 use Rattle.suite.proofs.Plans.{or-false, Passed, passed, of-cond, cond-same, by-verdict}
 use Rattle.suite.proofs.Layouts.{length-proof, length-mutual}
 use Rattle.suite.proofs.Replies.{sent-bits, received-bits}
+use Rattle.promises.proofs.Closed.{keptIn, error-kept}
 use Rattle.promises.specs.Machines.{Message}
 use Rattle.promises.specs.Demand3.{AlikeResponses}
 use Rattle.promises.proofs.Public.{Fields, Told, checked, plan-same, passed-fields}
@@ -40,18 +41,9 @@ tenIn (Keep a) = ten a
 tenIn (Close a) = ten a
 tenIn Go = false
 
-abbrev keptIn : Verdict → Bool
-keptIn (Keep a) = true
-keptIn (Close a) = false
-keptIn Go = false
-
 not-ten : (c : Checks) → tenIn (verdictOf c) ≡ false
 unfolding verdictOf closingOf
 not-ten c = simp (of-cond tenIn, cond-same)
-
-closed-kept : (c : Checks) → c .error ≡ true → keptIn (verdictOf c) ≡ true
-unfolding verdictOf closingOf
-closed-kept c h = rw h (simp (of-cond keptIn, cond-same))
 
 -- what a call does for each verdict: only an open state is closed
 by-order : (P : Verdict → Type 0) (c : Checks) → ((a : Answer) → ten a ≡ false → P (Keep a))
@@ -59,7 +51,7 @@ by-order : (P : Verdict → Type 0) (c : Checks) → ((a : Answer) → ten a ≡
 by-order P c keep close go = by-verdict P tenIn c (not-ten c) keep (λ a e n. close a n (unclosed (c .error) refl (ap keptIn e))) (λ e. go (passed c e))
   where
     unclosed : (b : Bool) → c .error ≡ b → keptIn (verdictOf c) ≡ false → c .error ≡ false
-    unclosed true e k = absurd (true≢false (sym (closed-kept c e) ∙ k))
+    unclosed true e k = absurd (true≢false (sym (error-kept c e) ∙ k))
     unclosed false e k = e
 
 -- ---- what two calls may give
