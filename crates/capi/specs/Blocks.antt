@@ -40,6 +40,7 @@ sessionIn block = record {
   reg = numberAt 48 block;
 }
 
+-- bytes 8 to 55 of either block
 unfoldable pub sessionBytes : Session → List ℕ
 sessionBytes x =
     numberBytes (x .engine .b .first)
@@ -53,6 +54,7 @@ sessionBytes x =
 abbrev pub Word : ℕ → Type 0
 Word n = n < 2 ^ 64
 
+-- so that what is written is read back
 pub record Words (x : Session) : Type 0 where
   pub b-first : Word (x .engine .b .first)
   pub b-last : Word (x .engine .b .last)
@@ -63,9 +65,11 @@ pub record Words (x : Session) : Type 0 where
 
 -- ---- the tag
 
+-- "tag, 56 bytes"
 abbrev pub tagBytes : ℕ
 tagBytes = 56
 
+-- the header's "name", the first byte
 unfoldable pub nameNumber : Name → ℕ
 nameNumber CsReset = 0
 nameNumber Ta1 = 1
@@ -74,6 +78,7 @@ nameNumber Ia2 = 3
 nameNumber Ma1 = 4
 nameNumber Ma2 = 5
 
+-- and back: 6 and more spell no state
 unfoldable pub nameOf : ℕ → Name
 nameOf n = cond (eqb n 0) CsReset (cond (eqb n 1) Ta1 (cond (eqb n 2) Ia1 (cond (eqb n 3) Ia2 (cond (eqb n 4) Ma1 Ma2))))
 
@@ -87,6 +92,7 @@ spellsTag block =
     && ltb (byteAt 3 block) 2
     && ltb (byteAt 4 block) 2
 
+-- "A BLOCK holds a machine's whole state"
 unfoldable pub tagIn : List ℕ → Tag
 tagIn block = record {
   name = nameOf (byteAt 0 block);
@@ -100,6 +106,7 @@ tagIn block = record {
   session = sessionIn block;
 }
 
+-- "eight bytes, then numbers of eight bytes each, the highest byte first"
 unfoldable pub tagBlock : Tag → List ℕ
 tagBlock t =
     (nameNumber (t .name) ∷ num (t .init) ∷ num (t .ta) ∷ num (t .ia) ∷ num (t .error) ∷ t .keyid ∷ t .options ∷ t .width ∷ [])
@@ -107,9 +114,11 @@ tagBlock t =
 
 -- ---- the reader
 
+-- "reader, 64 bytes"
 abbrev pub readerBytes : ℕ
 readerBytes = 64
 
+-- "stage: 0 idle, 1 step 0 sent, 2 step 1 sent, 3 open, 4 closed"
 unfoldable pub stageNumber : Stage → ℕ
 stageNumber Idle = 0
 stageNumber Step0Sent = 1
@@ -117,6 +126,7 @@ stageNumber Step1Sent = 2
 stageNumber Open = 3
 stageNumber Closed = 4
 
+-- and back: 5 and more spell no state
 unfoldable pub stageOf : ℕ → Stage
 stageOf n = cond (eqb n 0) Idle (cond (eqb n 1) Step0Sent (cond (eqb n 2) Step1Sent (cond (eqb n 3) Open Closed)))
 
@@ -129,6 +139,7 @@ spellsReader block =
     && ltb (byteAt 6 block) 1
     && ltb (byteAt 7 block) 1
 
+-- "A BLOCK holds a machine's whole state": the reader's number stands behind the session
 unfoldable pub readerIn : List ℕ → Reader
 readerIn block = record {
   stage = stageOf (byteAt 0 block);
@@ -140,6 +151,7 @@ readerIn block = record {
   session = sessionIn block;
 }
 
+-- "eight bytes, then numbers of eight bytes each, the highest byte first"
 unfoldable pub readerBlock : Reader → List ℕ
 readerBlock r =
     (stageNumber (r .stage) ∷ r .method ∷ r .options ∷ r .keyid ∷ r .width ∷ 0 ∷ 0 ∷ 0 ∷ [])

@@ -39,10 +39,11 @@ refusedBy answer block = record { block = block; answer = answer; reply = [] }
 
 -- ---- the tag
 
+-- "ANSWERS, by number", and the block of the next state
 abbrev pub tagGave : Result → Called
 tagGave r = record { block = tagBlock (r .tag); answer = numberOf (r .answer); reply = r .reply }
 
--- "a block that spells no state is answered 8 and kept"
+-- a block that "spells no state": "It is answered 8 and kept"
 unfoldable pub tagCalled : List ℕ → (Tag → Result) → Called
 tagCalled block call = cond (spellsTag block) (tagGave (call (tagIn block))) (refusedBy (numberOf BadState) block)
 
@@ -50,47 +51,59 @@ tagCalled block call = cond (spellsTag block) (tagGave (call (tagIn block))) (re
 unfoldable pub tagResetCalled : List ℕ → Called
 tagResetCalled block = cond (eqb (length block) tagBytes) (tagGave resetOf) (refusedBy (numberOf BadState) block)
 
+-- `kusarehyon_tag_command`
 unfoldable pub commandCalled : List ℕ → Command → Called
 commandCalled block command = tagCalled block (λ (t : Tag). commandOf t command)
 
+-- `kusarehyon_tag_response`
 unfoldable pub responseCalled : List ℕ → Response → Called
 responseCalled block response = tagCalled block (λ (t : Tag). responseOf t response)
 
--- the answer and the block
+-- `kusarehyon_tag_close`: "Answers 0, or 8"
 unfoldable pub closeAnswer : List ℕ → ℕ
 closeAnswer block = cond (spellsTag block) (numberOf Done) (numberOf BadState)
 
+-- "The tag closed, whatever its state: only a reset opens it"
 unfoldable pub closedBlock : List ℕ → List ℕ
 closedBlock block = cond (spellsTag block) (tagBlock (closedTag (tagIn block))) block
 
+-- `kusarehyon_tag_error_type`: a block "that spells none is answered 8"
 unfoldable pub errorTypeCalled : List ℕ → ℕ
 errorTypeCalled block = cond (spellsTag block) (errorTypeOf (tagIn block)) (numberOf BadState)
 
 -- ---- the reader
 
+-- "ANSWERS, by number", and the block of the next state
 abbrev pub readerGave : ReaderResult → Called
 readerGave r = record { block = readerBlock (r .reader); answer = numberOf (r .answer); reply = r .reply }
 
+-- a block that "spells no state": "It is answered 8 and kept"
 unfoldable pub readerCalled : List ℕ → (Reader → ReaderResult) → Called
 readerCalled block call = cond (spellsReader block) (readerGave (call (readerIn block))) (refusedBy (numberOf BadState) block)
 
+-- a reset takes any bytes, and asks only for the block's length
 unfoldable pub readerResetCalled : List ℕ → Called
 readerResetCalled block = cond (eqb (length block) readerBytes) (readerGave readerReset) (refusedBy (numberOf BadState) block)
 
+-- `kusarehyon_reader_begin`
 unfoldable pub beginCalled : List ℕ → ℕ → ℕ → ℕ → ℕ → List ℕ → ℕ → Called
 beginCalled block method options keyid number book room = readerCalled block (λ (r : Reader). beginOf r method options keyid number book room)
 
+-- `kusarehyon_reader_replied`
 unfoldable pub repliedCalled : List ℕ → List ℕ → ℕ → ℕ → Called
 repliedCalled block payload count room = readerCalled block (λ (r : Reader). repliedOf r payload count room)
 
+-- `kusarehyon_reader_send`
 unfoldable pub sendCalled : List ℕ → ℕ → List ℕ → ℕ → ℕ → Called
 sendCalled block kind plain count room = readerCalled block (λ (r : Reader). sendingOf r kind plain count room)
 
+-- `kusarehyon_reader_receive`
 unfoldable pub receiveCalled : List ℕ → ℕ → List ℕ → ℕ → ℕ → Called
 receiveCalled block kind payload count room = readerCalled block (λ (r : Reader). receivingOf r kind payload count room)
 
 -- ---- the key book: a call with no block
 
+-- "The key under a KeyID, as a reply of 128 bits"
 abbrev pub keyGiven : List ℕ → Called
 keyGiven key = record { block = []; answer = numberOf Done; reply = bitsOfBytes key }
 
@@ -103,10 +116,12 @@ findCalled book keyid room =
 
 -- ---- host frames: answer, kind, count, start, end; and answer, next place
 
+-- "Refused with 20 to 23, and then the four numbers are 0"
 unfoldable pub scannedNumbers : Scanned → List ℕ
 scannedNumbers (Scanned.Refused why) = Frames.numberOf why ∷ 0 ∷ 0 ∷ 0 ∷ 0 ∷ []
 scannedNumbers (Scanned.Frame kind count start end) = 0 ∷ kind ∷ count ∷ start ∷ end ∷ []
 
+-- "Refused with 20 to 24: then out is as it was, and *next is 0"
 unfoldable pub writtenNumbers : Written → List ℕ
 writtenNumbers (Written.Refused why) = Frames.numberOf why ∷ 0 ∷ []
 writtenNumbers (Written.Done next) = 0 ∷ next ∷ []

@@ -1,4 +1,4 @@
--- A count in groups of seven bits (document 01, "Host frames"), over the limit of its place. Assumes nothing.
+-- A count in groups of seven bits (document 01, "Host frames"), for any limit. Assumes nothing.
 use Prim.Native.Nat.{ℕ, zero, suc, _+_, _-_, _*_, _/_, _%_}
 use mathlib.Core.Bool.{cond}
 use mathlib.Core.List.{List, [], _∷_}

@@ -7,6 +7,7 @@ use Rattle.frames.specs.declared.Refusal.the-variants.{Short, Count}
 use Rattle.frames.specs.declared.Scanned.{Scanned}
 use Rattle.frames.specs.declared.Written.{Written}
 
+-- "Counts: 80 is 50; 127 is 7F; 128 is 80 01; 2,120 is C8 10; 2,121 and 80 00 are 21"
 pub record Counts : Type 0 where
   -- 80 is 50; 127 is 7F; 128 is 80 01; 2,120 is C8 10
   pub n80 : countBytes 80 ≡ 0x50 ∷ []
@@ -23,6 +24,7 @@ pub record Counts : Type 0 where
   pub inside : scanOf (0x00 ∷ 0x80 ∷ []) ≡ Scanned.Refused Short
   pub reset : scanOf (0x06 ∷ 0x80 ∷ []) ≡ Scanned.Refused Short
 
+-- every one by computing
 pub counts : Counts
 unfolding groupsOf countBytes upTo joined countFrom countAt limitOf checkOf framed afterCount scanOf placed writtenOf
 counts =

@@ -35,13 +35,15 @@ abbrev pub badData : ℕ → ℕ → Message → List ℕ → Bool
 badData k l m b =
     smallBuffer b || (beyondSlice (m .payload) (m .count) || not (eqb (m .kind) k || eqb (m .kind) l) || ltb dataLimit (m .count))
 
--- "response calls: not 4 or 5"; "reader's messages, sent or received: not 1 or 2"
+-- "response calls: not 4 or 5"
 abbrev pub badResponse : Message → List ℕ → Bool
 badResponse m b = badData 4 5 m b
 
+-- "reader's messages, sent or received: not 1 or 2"
 abbrev pub badSend : Message → List ℕ → Bool
 badSend m b = badData 1 2 m b
 
+-- "data to send" alone has a limit here: a received message that is too long is 6
 abbrev pub badReceive : Message → List ℕ → Bool
 badReceive m b = smallBuffer b || (beyondSlice (m .payload) (m .count) || not (eqb (m .kind) 1 || eqb (m .kind) 2))
 
@@ -50,6 +52,7 @@ abbrev pub badBegin : Begin → List ℕ → Bool
 badBegin i b =
     smallBuffer b || bigNumber (i .number) || not (Book.soundOf (i .book)) || not (Book.knownOf (i .keyid) (i .book)) || (leb 3 (i .method) || leb 4 (i .options))
 
+-- an authentication response comes with no kind, number or book
 abbrev pub badReply : List ℕ → ℕ → List ℕ → Bool
 badReply payload count b = smallBuffer b || beyondSlice payload count
 
@@ -94,6 +97,7 @@ pub record Demand1Tag (m : TagMachine) : Type 0 where
   pub command : (s : m .State) (c : Command) (b : List ℕ) → Answered keeps (eqb (c .kind) 0) (badCommand c b) s b (m .command s c b)
   pub response : (s : m .State) (c : Message) (b : List ℕ) → Answered keeps false (badResponse c b) s b (m .response s c b)
 
+-- "except 10 in step 1 at the tag": the reader never says the single bit 1
 pub record Demand1Reader (m : ReaderMachine) : Type 0 where
   pub reset : (b : List ℕ) → Fresh b (m .reset b)
   pub begin : (s : m .State) (c : Begin) (b : List ℕ) → Answered beginKeeps false (badBegin c b) s b (m .begin s c b)

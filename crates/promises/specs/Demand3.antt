@@ -1,5 +1,5 @@
--- Demand 3, silence: "two tags run from reset alike in all public parts answer alike while their comparisons come out alike, and once
--- a comparison fails their replies and whole stored states are equal until the next reset." Assumes nothing.
+-- Demand 3, silence: "two tags run from reset alike in all public parts answer alike while their comparisons come out alike, and
+-- once a comparison fails their replies and whole stored states are equal until the next reset." Assumes nothing.
 use mathlib.Core.Bool.{Bool, true, false, cond}
 use mathlib.Core.List.{List, [], _∷_}
 use mathlib.Core.Path.{_≡_}
@@ -28,6 +28,7 @@ publicBits count = cond (eqb count 80) 16 count
 abbrev pub eightBits : ℕ → Command → ℕ
 eightBits w c = fieldOf (c .count - (8 + w)) 8 (bitsOfBytes (c .payload))
 
+-- data, MACs, keys and the 64 keystream bits may differ
 pub record AlikeCommands (w : ℕ) (c d : Command) (b e : List ℕ) : Type 0 where
   pub kind : c .kind ≡ d .kind
   pub count : c .count ≡ d .count
@@ -40,6 +41,7 @@ pub record AlikeCommands (w : ℕ) (c d : Command) (b e : List ℕ) : Type 0 whe
   pub authentication : c .kind ≡ 0 → take (publicBits (c .count)) (bitsOfBytes (c .payload)) ≡ take (publicBits (c .count)) (bitsOfBytes (d .payload))
   pub zeros : (c .kind ≡ 0 → ⊥) → 0 < w → 8 + w ≤ c .count → eightBits w c ≡ eightBits w d
 
+-- "call kinds, bit counts, slice and buffer lengths": the data may differ
 pub record AlikeResponses (c d : Message) (b e : List ℕ) : Type 0 where
   pub kind : c .kind ≡ d .kind
   pub count : c .count ≡ d .count
@@ -58,6 +60,7 @@ Alike w (response c b) (reset e) = ⊥
 Alike w (response c b) (command d e) = ⊥
 Alike w (response c b) (response d e) = AlikeResponses c d b e
 
+-- equality after a failed comparison lasts until a reset
 abbrev pub isReset : Call → Bool
 isReset (reset b) = true
 isReset (command c b) = false
@@ -67,7 +70,7 @@ isReset (response c b) = false
 pub data Standing : Type 0 where
   together failed parted : Standing
 
--- "10: comparison failed"
+-- answer 10, "comparison failed"
 abbrev pub fails : {S : Type 0} → Given S → Bool
 fails g = eqb (g .answer) 10
 
@@ -93,6 +96,7 @@ pub record WholeAlike (M : TagMachine) (g h : Given (M .State)) : Type 0 where
   pub area : take areaBytes (g .buffer) ≡ take areaBytes (h .buffer)
 
 module _ (M : TagMachine) where
+  -- a reset is the same from any state
   abbrev pub give : M .State → Call → Given (M .State)
   give s (reset b) = M .reset b
   give s (command c b) = M .command s c b
@@ -104,6 +108,7 @@ module _ (M : TagMachine) where
   Claimed failed g h = SeenAlike M g h × WholeAlike M g h
   Claimed parted g h = Unit {0}
 
+  -- with each reset the runs begin anew
   abbrev pub next : Standing → Call → Given (M .State) → Given (M .State) → Standing
   next z c g h = cond (isReset c) together (after z (fails g) (fails h))
 

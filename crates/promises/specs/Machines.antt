@@ -25,7 +25,7 @@ pub record Message : Type 0 where
   pub payload : List ℕ
   pub count : ℕ
 
--- "Begin: method, options, KeyID, number, book"
+-- "Begin (only when idle, else 9): method, options, KeyID, number, book"
 pub record Begin : Type 0 where
   pub method : ℕ
   pub options : ℕ
@@ -50,6 +50,7 @@ pub record TagMachine : Type 1 where
   pub response : State → Message → List ℕ → Given State
   pub seen : State → Seen
 
+-- the authentication response comes as bytes and a bit count
 pub record ReaderMachine : Type 1 where
   pub State : Type 0
   pub reset : List ℕ → Given State

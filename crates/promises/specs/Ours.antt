@@ -18,16 +18,20 @@ use Rattle.promises.specs.Machines.{Given, Command, Message, TagMachine,
 abbrev pub tagGiven : TagWork.Result → List ℕ → Given Tag
 tagGiven r buffer = record { next = r .tag; answer = numberOf (r .answer); bits = length (r .reply); buffer = shown (r .reply) buffer }
 
+-- as `ReaderGives` has them
 abbrev pub readerGiven : ReaderWork.ReaderResult → List ℕ → Given Reader
 readerGiven r buffer = record { next = r .reader; answer = numberOf (r .answer); bits = length (r .reply); buffer = shown (r .reply) buffer }
 
+-- the call's room is the length of the buffer
 abbrev pub tagCommand : Tag → Command → List ℕ → TagWork.Result
 tagCommand t c buffer =
     TagWork.commandOf t (record { kind = c .kind; payload = c .payload; count = c .count; features = c .features; book = c .book; number = c .number; room = length buffer })
 
+-- the call's room is the length of the buffer
 abbrev pub tagResponse : Tag → Message → List ℕ → TagWork.Result
 tagResponse t m buffer = TagWork.responseOf t (record { kind = m .kind; payload = m .payload; count = m .count; room = length buffer })
 
+-- the numbers that `Seen` names
 abbrev pub nameNumber : Name → ℕ
 nameNumber CsReset = 0
 nameNumber Ta1 = 1
@@ -36,6 +40,7 @@ nameNumber Ia2 = 3
 nameNumber Ma1 = 4
 nameNumber Ma2 = 5
 
+-- "demand 3 speaks of demand 2's machine": both of this tag
 abbrev pub ourTag : TagMachine
 ourTag = record {
   State = Tag;
@@ -45,6 +50,7 @@ ourTag = record {
   seen = λ t. record { name = nameNumber (t .name); init = t .init; ta = t .ta; ia = t .ia; error = t .error; width = t .width };
 }
 
+-- the reader of demands 1 and 2
 abbrev pub ourReader : ReaderMachine
 ourReader = record {
   State = Reader;

@@ -1,5 +1,5 @@
--- Wrong tags, each made from ours by changing one thing: `proofs/Refuted`, `Copied`, `Leaks` and `LeaksData` show that a demand fails of each.
--- Assumes nothing.
+-- Wrong tags, each made from ours by changing one thing: `proofs/Refuted`, `Copied`, `Leaks` and `LeaksData` show that a demand
+-- fails of each. Assumes nothing.
 use mathlib.Core.Bool.{Bool, false, cond, Bool·beq, _&&_, _||_}
 use mathlib.Core.List.{List, [], _∷_, _++_}
 use Prim.Native.Nat.{ℕ, suc, _+_, _-_}
@@ -69,6 +69,7 @@ pub record Copier : Type 0 where
   pub spoke : Bool
   pub mac : ℕ
 
+-- what our tag gives, handed on unchanged
 abbrev pub holding : Bool → ℕ → Given Tag → Given Copier
 holding spoke mac g = record { next = record { tag = g .next; spoke = spoke; mac = mac }; answer = g .answer; bits = g .bits; buffer = g .buffer }
 
@@ -77,6 +78,7 @@ abbrev pub copied : Copier → Given Tag → List ℕ → List ℕ
 copied c g buffer =
     cond (c .spoke && eqb (g .answer) 0) (shown (take (g .bits - c .tag .width) (bitsOfBytes (g .buffer)) ++ bitsOf (c .tag .width) (c .mac)) buffer) (g .buffer)
 
+-- "computes the first MAC": it is that of the first response answered 0
 abbrev pub spoken : Copier → Given Tag → List ℕ → Given Copier
 spoken c g buffer = record {
   next = record { tag = g .next; spoke = c .spoke || eqb (g .answer) 0; mac = cond (c .spoke) (c .mac) (g .next .session .acc) };
@@ -111,6 +113,7 @@ onMismatch change = record {
 abbrev pub withInput : Tag → Command → List ℕ → Given Tag → Given Tag
 withInput t c buffer g = record { next = g .next; answer = g .answer; bits = g .bits; buffer = shown (bitsOfBytes (c .payload)) buffer }
 
+-- demand 3 shuts it out: the replies are not equal where a comparison failed
 abbrev pub leavesInput : TagMachine
 leavesInput = onMismatch withInput
 
@@ -128,6 +131,7 @@ withData t c buffer g = record {
   buffer = cond (eqb (c .kind) 0) (g .buffer) (shown (saidBy t c) buffer);
 }
 
+-- "Leaving decrypted bits behind when the MAC differs"
 abbrev pub leavesDecrypted : TagMachine
 leavesDecrypted = onMismatch withData
 
@@ -141,6 +145,7 @@ agreed (x ∷ xs) (y ∷ ys) = cond (Bool·beq x y) (suc (agreed xs ys)) 0
 unfoldable pub expected : Tag → List Bool → List Bool
 expected t l = bitsOf 64 (nextKeystream (filledSession (chosenWidth (optionsIn l)) (t .session .engine) .engine) .word)
 
+-- the KeyID is no part of what the tag shows, `Seen`
 abbrev pub placed : ℕ → Tag → Tag
 placed n t = record {
   name = t .name;
@@ -163,5 +168,6 @@ withPlace t c buffer g = record {
   buffer = g .buffer;
 }
 
+-- demand 3 shuts it out: the stored states are not equal where a comparison failed
 abbrev pub keepsPlace : TagMachine
 keepsPlace = onMismatch withPlace

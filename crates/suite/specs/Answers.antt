@@ -1,5 +1,5 @@
 -- Document 01, "Replies and refusals": the numbers, their one order, and what is kept or closed. Assumes nothing.
-use mathlib.Core.Bool.{Bool, cond}
+use mathlib.Core.Bool.{cond}
 use Prim.Native.Nat.{ℕ}
 use Rattle.suite.specs.declared.Answer.{Answer}
 use Rattle.suite.specs.declared.Answer.the-variants.{Done, BadBook, SmallBuffer, WrongKind, Unsupported, UnknownKey, WrongLength, Closed, BadState, NoWork, Mismatch, BadArgument}

@@ -1,4 +1,4 @@
--- What the contracts of `suite` cite, in document 01's order.
+-- What the contracts of `suite` cite, each after what it stands on.
 pub mod Answers
 pub mod Payloads
 pub mod Messages

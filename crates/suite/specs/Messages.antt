@@ -1,9 +1,10 @@
--- What sending and receiving a message do, at either end. Assumes nothing.
+-- Document 01, "Cipher (Annex C)" as the machines use it, and "Communication" of "Payloads, first bit highest in its byte": what
+-- sending and receiving a message do, at either end. Assumes nothing.
 use mathlib.Core.Bool.{Bool, cond}
-use mathlib.Core.List.{List, _++_}
+use mathlib.Core.List.{List}
 use Prim.Native.Nat.{ℕ, _+_, _-_}
-use lib.Dec.{ltb, eqb}
-use lib.ListN.{length, take}
+use lib.Dec.{eqb}
+use lib.ListN.{take}
 use Rattle.bits.specs.Bytes.{fieldOf}
 use Rattle.grain.specs.declared.Register.{Register}
 use Rattle.grain.specs.declared.Engine.{Engine}
@@ -24,38 +25,45 @@ use Rattle.suite.specs.Payloads.{message, mac64}
 abbrev pub methodOf : ℕ → Method
 methodOf m = cond (eqb m 0) Ta (cond (eqb m 1) Ia Ma)
 
--- the MAC that options bit 0 chooses, and that a stored width says
+-- "bit 0 chooses MAC64"
 abbrev pub chosenWidth : ℕ → Width
 chosenWidth options = cond (mac64 options) Mac64 Mac32
 
+-- "w is 32 or 64": the stored width says which
 abbrev pub storedWidth : ℕ → Width
 storedWidth width = cond (eqb width 64) Mac64 Mac32
 
+-- "b = key", and the two numbers in s; "Then 256 clocks with y added into both new bits"
 unfoldable pub begunEngine : Register → ℕ → ℕ → ℕ → Engine
 begunEngine key method reader tag = engineOf (started (stateOf (engineOf (loaded (methodOf method) (bitsR key) reader tag))))
 
+-- "The next w outputs are the accumulator, the next w the shift register"
 unfoldable pub filledSession : Width → Engine → Session
 filledSession v e = sessionOf (filled (widthOf v) (stateOf e))
 
--- the next 64 keystream bits, and the engine after their pairs
+-- the next 64 keystream bits, and the engine after their pairs: "the MAC bits are thrown away"
 unfoldable pub nextKeystream : Engine → Outputs
 nextKeystream e = keystreamOf 64 (stateOf e)
 
+-- "It is not started again: the next message goes on from it"
 unfoldable pub afterMessage : Width → List Bool → Session → Session
 afterMessage v body x = sessionOf (authenticated body (macOf (widthOf v) x))
 
--- the bits that go out for data, and the data of bits that came in
+-- the bits that go out for data: "Secure messages add the keystream bit to each data bit"
 unfoldable pub bodyOf : Width → Bool → List Bool → Session → List Bool
 bodyOf v secure ms x = cond secure (encrypted ms (macOf (widthOf v) x)) ms
 
+-- the data of bits that came in: the same keystream bit added again
 unfoldable pub dataOf : Width → Bool → List Bool → Session → List Bool
 dataOf v secure cs x = cond secure (decrypted cs (macOf (widthOf v) x)) cs
 
 -- ---- a message is sent
 
+-- "the MAC is over the encrypted bits"
 unfoldable pub sentSession : Width → Bool → List Bool → Session → Session
 sentSession v secure ms x = afterMessage v (bodyOf v secure ms x) x
 
+-- "eight zero bits, MAC of w bits": "The MAC is the accumulator"
 unfoldable pub sentBits : Width → Bool → List Bool → Session → List Bool
 sentBits v secure ms x = message (bodyOf v secure ms x) (widthOf v) (sentSession v secure ms x .acc)
 

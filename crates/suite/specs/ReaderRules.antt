@@ -1,13 +1,9 @@
--- Document 01, "Reader machine": its states, what a stored state must be, and what is refused. All of it looks at public parts
--- only, but for the test of a stored state. Assumes nothing.
+-- Document 01, "Reader machine" and "Replies and refusals": its states, what a stored state must be, and what is refused. All of it
+-- looks at public parts only, but for the test of a stored state. Assumes nothing.
 use mathlib.Core.Bool.{Bool, true, false, not, cond, _&&_, _||_}
-use mathlib.Core.List.{List}
-use Prim.Native.Nat.{ℕ, _+_}
+use Prim.Native.Nat.{ℕ}
 use lib.Dec.{ltb, leb, eqb}
-use lib.ListN.{length}
 use Rattle.bits.specs.Area.{areaBytes}
-use Rattle.bits.specs.Bytes.{bitsOfBytes, fieldOf}
-use Rattle.book.specs.Book as Book
 use Rattle.suite.specs.declared.Answer.the-variants.{Mismatch}
 use Rattle.suite.specs.declared.Checks.{Checks}
 use Rattle.suite.specs.declared.Stage.{Stage}
@@ -20,8 +16,7 @@ use Rattle.suite.specs.declared.ReplyPlan.{ReplyPlan}
 use Rattle.suite.specs.declared.ReplyPlan.the-variants as Plans
 use Rattle.suite.specs.Answers.{verdictOf}
 use Rattle.suite.specs.Payloads.{dataLimit, mac64, securing, supports}
-use Rattle.suite.specs.Messages.{zerosOf}
-use Rattle.suite.specs.TagRules.{emptyEngine, wordsFit, numberLimit, lengthFits, beyondOf}
+use Rattle.suite.specs.TagRules.{emptyEngine, wordsFit, numberLimit, lengthFits}
 
 -- "States: idle, step 0 sent, step 1 sent (IA, MA), open, closed"
 abbrev pub stageRow : Stage → StageRow
@@ -55,6 +50,7 @@ readerSound r =
 
 -- ---- the public parts of a stored state
 
+-- "stores the first four until closed or reset"; the session, which has secrets, is left out
 pub record ReaderFace : Type 0 where
   pub stage : Stage
   pub method : ℕ
@@ -63,11 +59,13 @@ pub record ReaderFace : Type 0 where
   pub number : ℕ
   pub width : ℕ
 
+-- what a call's checks see of the state, beside whether it is sound
 abbrev pub readerFace : Reader → ReaderFace
 readerFace r = record { stage = r .stage; method = r .method; options = r .options; keyid = r .keyid; number = r .number; width = r .width }
 
 -- ---- begin: "only when idle, else 9"; "A method of 3 or more, or options of 4 or more, is 4"
 
+-- 11 "number at or above 2^48"; 9 "no work in this state"; 5 "KeyID not in the book (step 0, begin)"; 4 as above
 abbrev pub beginChecks : Bool → StageRow → ℕ → ℕ → ℕ → Bool → Bool → ℕ → Checks
 beginChecks ok row method options number book known room = record {
   state = not ok;
@@ -83,6 +81,7 @@ beginChecks ok row method options number book known room = record {
   support = leb 3 method || leb 4 options;
 }
 
+-- of the book only whether it is sound and has the KeyID: no key chooses a refusal
 unfoldable pub beginVerdict : Bool → ReaderFace → ℕ → ℕ → ℕ → Bool → Bool → ℕ → Verdict
 beginVerdict ok f method options number book known room =
     verdictOf (beginChecks ok (stageRow (f .stage)) method options number book known room)
@@ -96,6 +95,7 @@ replyLength row method count status =
     (row .asked && ((eqb method 0 && eqb count 120) || (not (eqb method 0) && eqb count 56)))
     || (row .proving && ((eqb method 1 && eqb count 1) || (not (eqb method 1) && ((eqb count 1 && eqb status 1) || (eqb count 65 && eqb status 0)))))
 
+-- "Received features must support the chosen options, else 4"; 9 where no response is waited for
 abbrev pub replyChecks : Bool → StageRow → ReaderFace → Bool → ℕ → ℕ → ℕ → ℕ → Checks
 replyChecks ok row f beyond count features status room = record {
   state = not ok;
@@ -111,23 +111,26 @@ replyChecks ok row f beyond count features status room = record {
   support = row .asked && not (supports features (f .options));
 }
 
--- what is done where nothing is refused; "Status 1 .. 10"
+-- what is done where nothing is refused; "Status 1 or unequal bits are 10"
 abbrev pub replyWork : StageRow → ℕ → ℕ → ReplyPlan
 replyWork row method status =
     cond (row .asked) (cond (eqb method 0) Plans.Compare Plans.Answer)
     (cond (eqb status 1) (Plans.Close Mismatch) (cond (eqb method 1) Plans.Accept Plans.Confirm))
 
+-- no work where a check refuses
 abbrev pub replyPlanFrom : Verdict → ReplyPlan → ReplyPlan
 replyPlanFrom (Keep a) w = Plans.Keep a
 replyPlanFrom (Close a) w = Plans.Close a
 replyPlanFrom Go w = w
 
+-- of the response only its features and its status: no secret chooses the plan
 unfoldable pub replyPlan : Bool → ReaderFace → Bool → ℕ → ℕ → ℕ → ℕ → ReplyPlan
 replyPlan ok f beyond count features status room =
     replyPlanFrom (verdictOf (replyChecks ok (stageRow (f .stage)) f beyond count features status room)) (replyWork (stageRow (f .stage)) (f .method) status)
 
 -- ---- messages: "it sends in IA and MA, receives in TA and MA, secure in MA only and if enabled; other calls are 9"
 
+-- in every method but `silent`; "secure in MA only and if enabled"
 abbrev pub mayTalk : StageRow → ReaderFace → ℕ → ℕ → Bool
 mayTalk row f silent kind = row .opened && not (eqb (f .method) silent) && (not (eqb kind 2) || (eqb (f .method) 2 && securing (f .options)))
 
@@ -147,9 +150,11 @@ sendChecks ok row f kind beyond count room = record {
   support = false;
 }
 
+-- of the data to send only the bit count is looked at
 unfoldable pub sendVerdict : Bool → ReaderFace → ℕ → Bool → ℕ → ℕ → Verdict
 sendVerdict ok f kind beyond count room = verdictOf (sendChecks ok (stageRow (f .stage)) f kind beyond count room)
 
+-- 11 "reader's messages, sent or received: not 1 or 2"; 6 "length wrong, or the eight bits not zero"
 abbrev pub receiveChecks : Bool → StageRow → ReaderFace → ℕ → Bool → ℕ → Bool → ℕ → Checks
 receiveChecks ok row f kind beyond count zeros room = record {
   state = not ok;
@@ -165,5 +170,6 @@ receiveChecks ok row f kind beyond count zeros room = record {
   support = false;
 }
 
+-- of the message only its bit count and "the eight zero bits" are looked at
 unfoldable pub receiveVerdict : Bool → ReaderFace → ℕ → Bool → ℕ → Bool → ℕ → Verdict
 receiveVerdict ok f kind beyond count zeros room = verdictOf (receiveChecks ok (stageRow (f .stage)) f kind beyond count zeros room)

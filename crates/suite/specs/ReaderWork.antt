@@ -34,9 +34,11 @@ pub record ReaderResult : Type 0 where
   pub answer : Answer
   pub reply : List Bool
 
+-- the step handed back says the reply's own length
 abbrev pub readerStep : ReaderResult → ReaderStep
 readerStep r = record { reader = r .reader; answer = r .answer; bits = length (r .reply) }
 
+-- "Every call writes all of it: the reply's bits, then zeros. Bytes beyond stay as found"
 pub record ReaderGives (r : ReaderResult) (s : ReaderStep) (before after : List ℕ) : Type 0 where
   pub step : s ≡ readerStep r
   pub reply : after ≡ shown (r .reply) before
@@ -83,9 +85,11 @@ movedReader stage r x = record {
   session = x;
 }
 
+-- the table's "kept"; "Replies to refusals have no bits"
 abbrev pub readerKept : Reader → Answer → ReaderResult
 readerKept r a = record { reader = r; answer = a; reply = [] }
 
+-- "A closed reader keeps nothing but that it is closed"; "Replies to refusals have no bits"
 abbrev pub readerClosed : Answer → ReaderResult
 readerClosed a = record { reader = emptyReader Closed; answer = a; reply = [] }
 
@@ -95,6 +99,7 @@ readerClosed a = record { reader = emptyReader Closed; answer = a; reply = [] }
 abbrev pub beginOptions : ℕ → ℕ → ℕ
 beginOptions method options = cond (eqb method 0) options 0
 
+-- "gives the step 0 command and stores the first four until closed or reset"
 abbrev pub begunBy : ℕ → ℕ → ℕ → ℕ → List ℕ → ReaderResult
 begunBy method options keyid number book = record {
   reader = begunReader method options keyid number (keyIn (Book.keyOf keyid book));
@@ -102,12 +107,13 @@ begunBy method options keyid number book = record {
   reply = stepZero method (beginOptions method options) keyid number;
 }
 
--- every refusal of begin keeps the state
+-- "closed (begin: kept)": every refusal of begin keeps the state
 unfoldable pub beginBy : Verdict → Reader → ReaderResult → ReaderResult
 beginBy (Verdicts.Keep a) r go = readerKept r a
 beginBy (Verdicts.Close a) r go = readerKept r a
 beginBy Verdicts.Go r go = go
 
+-- "Begin (only when idle, else 9): method, options, KeyID, number, book"
 unfoldable pub beginOf : Reader → ℕ → ℕ → ℕ → ℕ → List ℕ → ℕ → ReaderResult
 beginOf r method options keyid number book room =
     beginBy (beginVerdict (readerSound r) (readerFace r) method options number (Book.soundOf book) (Book.knownOf keyid book) room) r
@@ -119,15 +125,17 @@ beginOf r method options keyid number book room =
 unfoldable pub answerSession : Reader → List Bool → Session
 answerSession r l = filledSession (chosenWidth (r .options)) (begunEngine (r .session .engine .b) (r .method) (r .number) (fieldOf 8 48 l))
 
--- a comparison of 64 keystream bits: open, or closed with 10
+-- "unequal bits are 10"; "the last authentication response, accepted by the reader, has a reply of no bits"
 unfoldable pub comparedBy : Bool → Reader → ReaderResult
 comparedBy same r = cond same (record { reader = r; answer = Done; reply = [] }) (readerClosed Mismatch)
 
+-- "TA and MA compare the tag's 64 bits": those of TA's response
 unfoldable pub compareOf : Reader → List Bool → ReaderResult
 compareOf r l =
     let x = answerSession r l in
     comparedBy (eqb (nextKeystream (x .engine) .word) (fieldOf 56 64 l)) (filledReader Open r (nextKeystream (x .engine) .engine) x)
 
+-- "in IA and MA the step 1 command is then the reply", with the "first 64 keystream bits"
 unfoldable pub answerOf : Reader → List Bool → ReaderResult
 answerOf r l =
     let x = answerSession r l in
@@ -137,17 +145,21 @@ answerOf r l =
       reply = stepOne (r .method) (r .options) (r .keyid) (nextKeystream (x .engine) .word);
     }
 
+-- "IA accepts status 0"
 abbrev pub acceptOf : Reader → ReaderResult
 acceptOf r = record { reader = movedReader Open r (r .session); answer = Done; reply = [] }
 
+-- "the register doesn't move", nor the accumulator
 abbrev pub withEngine : Session → Engine → Session
 withEngine x e = record { engine = e; acc = x .acc; reg = x .reg }
 
+-- "TA and MA compare the tag's 64 bits": "keystream bits 64..127" in MA
 unfoldable pub confirmOf : Reader → List Bool → ReaderResult
 confirmOf r l =
     let ks = nextKeystream (r .session .engine) in
     comparedBy (eqb (ks .word) (fieldOf 1 64 l)) (movedReader Open r (withEngine (r .session) (ks .engine)))
 
+-- "Then it takes the response": the work stands behind all checks, as "comparison (10)" is the order's last
 unfoldable pub repliedBy : ReplyPlan → Reader → List Bool → ReaderResult
 repliedBy (Plans.Keep a) r l = readerKept r a
 repliedBy (Plans.Close a) r l = readerClosed a
@@ -156,6 +168,7 @@ repliedBy Plans.Answer r l = answerOf r l
 repliedBy Plans.Accept r l = acceptOf r
 repliedBy Plans.Confirm r l = confirmOf r l
 
+-- a response begins with "features 8" in step 0, with its status in step 1
 unfoldable pub repliedOf : Reader → List ℕ → ℕ → ℕ → ReaderResult
 repliedOf r payload count room =
     let l = bitsOfBytes payload in
@@ -163,15 +176,18 @@ repliedOf r payload count room =
 
 -- ---- messages; kind 2 is secure
 
+-- "0 to 2,048 data bits, eight zero bits, MAC of w bits"
 unfoldable pub readerSent : Reader → ℕ → List ℕ → ℕ → ReaderResult
 readerSent r kind payload count =
     let v = storedWidth (r .width) in
     let ms = take count (bitsOfBytes payload) in
     record { reader = movedReader (r .stage) r (sentSession v (eqb kind 2) ms (r .session)); answer = Done; reply = sentBits v (eqb kind 2) ms (r .session) }
 
+-- a message "that is accepted, at either end, has its plain data bits as reply"; else nothing decrypted is left
 unfoldable pub readerReceivedBy : Bool → Reader → Session → List Bool → ReaderResult
 readerReceivedBy same r x ms = cond same (record { reader = movedReader (r .stage) r x; answer = Done; reply = ms }) (readerClosed Mismatch)
 
+-- "the MAC is over the encrypted bits": over those that came
 unfoldable pub readerReceived : Reader → ℕ → List ℕ → ℕ → ReaderResult
 readerReceived r kind payload count =
     let l = bitsOfBytes payload in
@@ -179,15 +195,18 @@ readerReceived r kind payload count =
     let cs = take (dataBits (widthOf v) count) l in
     readerReceivedBy (sameMac v l count (r .session)) r (afterMessage v cs (r .session)) (dataOf v (eqb kind 2) cs (r .session))
 
+-- the table's "kept" and "closed"; no work where a check refuses
 unfoldable pub readerBy : Verdict → Reader → ReaderResult → ReaderResult
 readerBy (Verdicts.Keep a) r go = readerKept r a
 readerBy (Verdicts.Close a) r go = readerClosed a
 readerBy Verdicts.Go r go = go
 
+-- "it sends in IA and MA"
 unfoldable pub sendingOf : Reader → ℕ → List ℕ → ℕ → ℕ → ReaderResult
 sendingOf r kind payload count room =
     readerBy (sendVerdict (readerSound r) (readerFace r) kind (beyondOf payload count) count room) r (readerSent r kind payload count)
 
+-- "receives in TA and MA"
 unfoldable pub receivingOf : Reader → ℕ → List ℕ → ℕ → ℕ → ReaderResult
 receivingOf r kind payload count room =
     readerBy (receiveVerdict (readerSound r) (readerFace r) kind (beyondOf payload count) count (zerosOf (r .width) count (bitsOfBytes payload)) room) r

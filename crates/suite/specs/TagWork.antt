@@ -2,7 +2,7 @@
 use mathlib.Core.Bool.{Bool, true, false, not, cond, _&&_}
 use mathlib.Core.List.{List, []}
 use mathlib.Core.Path.{_≡_}
-use Prim.Native.Nat.{ℕ, _+_, _*_}
+use Prim.Native.Nat.{ℕ}
 use lib.Dec.{eqb}
 use lib.ListN.{length, take}
 use Rattle.bits.specs.Bytes.{bitsOfBytes, fieldOf}
@@ -10,7 +10,6 @@ use Rattle.bits.specs.Area.{shown}
 use Rattle.grain.specs.declared.Register.{Register}
 use Rattle.grain.specs.declared.Engine.{Engine}
 use Rattle.grain.specs.declared.Session.{Session}
-use Rattle.grain.specs.declared.Width.{Width}
 use Rattle.grain.specs.Stored.{widthOf}
 use Rattle.book.specs.Book as Book
 use Rattle.suite.specs.declared.Name.{Name}
@@ -37,15 +36,18 @@ pub record Result : Type 0 where
 abbrev pub stepOf : Result → Step
 stepOf r = record { tag = r .tag; answer = r .answer; bits = length (r .reply) }
 
+-- "Every call writes all of it: the reply's bits, then zeros. Bytes beyond stay as found"
 pub record Gives (r : Result) (s : Step) (before after : List ℕ) : Type 0 where
   pub step : s ≡ stepOf r
   pub reply : after ≡ shown (r .reply) before
 
 -- ---- states
 
+-- "zeroes registers"
 abbrev pub emptyRegister : Register
 emptyRegister = record { first = 0; last = 0 }
 
+-- "zeroes registers, accumulator, register"
 abbrev pub emptySession : Session
 emptySession = record { engine = record { b = emptyRegister; s = emptyRegister }; acc = 0; reg = 0 }
 
@@ -75,7 +77,8 @@ begunTag name keyid e = record {
   session = record { engine = e; acc = 0; reg = 0 };
 }
 
--- opened: "options with the width"
+-- opened: "options with the width"; "the MAC bits are thrown away and the register doesn't move", so e is the engine after the
+-- keystream's pairs, and accumulator and register are those that x was filled with
 abbrev pub openTag : Name → Bool → Bool → ℕ → ℕ → Engine → Session → Tag
 openTag name ta ia keyid options e x = record {
   name = name;
@@ -91,9 +94,11 @@ openTag name ta ia keyid options e x = record {
 
 -- ---- step 0
 
+-- "b = key", which in the book is "a 16-byte key"
 abbrev pub keyIn : List ℕ → Register
 keyIn key = record { first = fieldOf 0 64 (bitsOfBytes key); last = fieldOf 64 64 (bitsOfBytes key) }
 
+-- to TA.1, "INIT, TA", with "TA 120 bits (features 8, tag's number 48, 64 keystream bits)"
 abbrev pub taStarted : ℕ → ℕ → ℕ → ℕ → Session → Result
 taStarted keyid options features number x = record {
   tag = openTag Ta1 true false keyid options (nextKeystream (x .engine) .engine) x;
@@ -101,15 +106,18 @@ taStarted keyid options features number x = record {
   reply = tagProof features number (nextKeystream (x .engine) .word);
 }
 
+-- to IA.1 or MA.1, "INIT", with "IA and MA step 0, 56 bits"
 abbrev pub challenged : Name → ℕ → ℕ → ℕ → Engine → Result
 challenged name keyid features number e = record { tag = begunTag name keyid e; answer = Done; reply = tagChallenge features number }
 
+-- "CS-Init is passed within the call";
 -- "In IA and MA the width is known only at step 1, so accumulator and register are filled then"
 unfoldable pub startedBy : ℕ → ℕ → ℕ → ℕ → ℕ → Engine → Result
 startedBy method keyid options features number e =
     cond (eqb method 0) (taStarted keyid options features number (filledSession (chosenWidth options) e))
     (cond (eqb method 1) (challenged Ia1 keyid features number e) (challenged Ma1 keyid features number e))
 
+-- "KeyID is stored from step 0": the book's key under it starts the cipher
 unfoldable pub startOf : List ℕ → ℕ → List ℕ → ℕ → Result
 startOf payload features book number =
     let l = bitsOfBytes payload in
@@ -122,9 +130,11 @@ startOf payload features book number =
 abbrev pub failed : Name → Result
 failed name = record { tag = bareTag name true false false true; answer = Mismatch; reply = status 1 }
 
+-- to IA.2, "INIT, IA", with "IA step 1, one bit"
 abbrev pub interrogatorProved : ℕ → ℕ → Engine → Session → Result
 interrogatorProved keyid options e x = record { tag = openTag Ia2 false true keyid options e x; answer = Done; reply = status 0 }
 
+-- to MA.2, "INIT, TA, IA", with "MA step 1, bit 0 and keystream bits 64..127"
 abbrev pub mutuallyProved : ℕ → ℕ → Engine → Session → Result
 mutuallyProved keyid options e x = record {
   tag = openTag Ma2 true true keyid options (nextKeystream e .engine) x;
@@ -132,14 +142,16 @@ mutuallyProved keyid options e x = record {
   reply = mutualProof (nextKeystream e .word);
 }
 
--- the comparison is of all 64 bits; e is the engine after the first 64 pairs
+-- "10.4.5 decides over table A.6: step 1 leads to MA.2"; the comparison is of all 64 bits; e is the engine after the first 64 pairs
 unfoldable pub provedBy : Bool → Bool → ℕ → ℕ → Engine → Session → Result
 provedBy mutually same keyid options e x =
     cond mutually (cond same (mutuallyProved keyid options e x) (failed Ma2)) (cond same (interrogatorProved keyid options e x) (failed Ia2))
 
+-- the state says whose step 1 it is: `stepWanted` has held the command's method against it
 abbrev pub mutualOf : Tag → Bool
 mutualOf t = eqb (rowOf (t .name) .method) 2
 
+-- "IKeystream 64 (first 64 keystream bits)"; "accumulator and register are filled then"
 unfoldable pub proveOf : Tag → List ℕ → Result
 proveOf t payload =
     let l = bitsOfBytes payload in
@@ -148,6 +160,7 @@ proveOf t payload =
 
 -- ---- messages
 
+-- "the next message goes on from it", and nothing else of the state changes
 abbrev pub withSession : Tag → Session → Tag
 withSession t x = record {
   name = t .name;
@@ -161,7 +174,7 @@ withSession t x = record {
   session = x;
 }
 
--- a command's data where its MAC is right; else the tag closes, and nothing decrypted is left
+-- a message "that is accepted, at either end, has its plain data bits as reply"; else the tag closes, and nothing decrypted is left
 unfoldable pub receivedBy : Bool → Tag → Session → List Bool → Result
 receivedBy same t x ms =
     cond same (record { tag = withSession t x; answer = Done; reply = ms }) (record { tag = closedTag t; answer = Mismatch; reply = [] })
@@ -183,12 +196,15 @@ sendOf t kind payload count =
 
 -- ---- the calls
 
+-- the table's "kept"; "Replies to refusals have no bits"
 abbrev pub keptBy : Tag → Answer → Result
 keptBy t a = record { tag = t; answer = a; reply = [] }
 
+-- the table's "closed"; "a payload error stays in MA.1", as the name is kept
 abbrev pub closedBy : Tag → Answer → Result
 closedBy t a = record { tag = closedTag t; answer = a; reply = [] }
 
+-- the work stands behind all checks, as "comparison (10)" is the order's last
 unfoldable pub carryOf : Plan → Tag → Command → Result
 carryOf (Keep a) t i = keptBy t a
 carryOf (Close a) t i = closedBy t a
@@ -196,14 +212,17 @@ carryOf Start t i = startOf (i .payload) (i .features) (i .book) (i .number)
 carryOf Prove t i = proveOf t (i .payload)
 carryOf Receive t i = receiveOf t (i .kind) (i .payload) (i .count)
 
+-- "A command call takes kind, bits, features, book and the tag's number"
 unfoldable pub commandOf : Tag → Command → Result
 commandOf t i = carryOf (commandPlan (soundOf t) (faceOf t) (shownOf (t .width) i)) t i
 
+-- "Responses wanted": sent where none of the checks refuses
 unfoldable pub respondOf : Verdict → Tag → Response → Result
 respondOf (Verdicts.Keep a) t i = keptBy t a
 respondOf (Verdicts.Close a) t i = closedBy t a
 respondOf Verdicts.Go t i = sendOf t (i .kind) (i .payload) (i .count)
 
+-- "a response call takes kind and data"
 unfoldable pub responseOf : Tag → Response → Result
 responseOf t i = respondOf (responseVerdict (soundOf t) (faceOf t) (i .kind) (beyondOf (i .payload) (i .count)) (i .count) (i .room)) t i
 
@@ -213,6 +232,7 @@ resetOf = record { tag = resetTag; answer = Done; reply = [] }
 
 -- ---- Annex B's table, "from state and flags: 0 when ERROR is false or the state earns 8"
 
+-- "by Annex B's table, not its text": the text has a payload error in IA.1 or MA.1 as type 1, the table as type 3
 unfoldable pub errorTypeOf : Tag → ℕ
 errorTypeOf t =
     cond (t .error && soundOf t)

@@ -1,4 +1,4 @@
--- Numbers and bytes as text, in ASCII, and what writing a text leaves. Assumes nothing.
+-- Document 01, "Host frames", lines of `tagrun`: numbers and bytes as ASCII text, and what writing a text leaves. Assumes nothing.
 use mathlib.Core.Bool.{cond}
 use mathlib.Core.List.{List, [], _∷_, _++_}
 use mathlib.Core.Path.{_≡_}
