@@ -10,7 +10,7 @@ ghost use Prim.Native.Nat.{ℕ, _<_, _≤_, _^_, _%_};
 ghost use lib.ListN.{getD, length, take, drop};
 ghost use Rattle.bits.specs.Bits.{bitsOf, numOf};
 ghost use Rattle.bits.specs.Bytes.{bitsOfBytes, bytesOf, wordBits};
-ghost use Rattle.grain.specs.Generator.{push, value, clock, out, bitAt};
+ghost use Rattle.grain.specs.Generator.{push, value, clock, out, bitAt, nextB, nextS};
 ghost use Rattle.grain.specs.Start.{loaded, started, provers};
 ghost use Rattle.grain.specs.Mac.{padding, taken, filled, absorbed, authenticated, encrypted, decrypted};
 ghost use Rattle.grain.specs.Stored.{widthOf, bitsR, registerOf, stateOf, engineOf, macOf, sessionOf, outputsOf, pairOf, keystreamOf, placeOf, terms};
@@ -187,15 +187,33 @@ impl Engine {
     fn out(self) -> bool
         ensures { λ r. ⌜ r ≡ out (stateOf self) ⌝ }
     {
-        self.value(&taps::OUTPUT)
+        self.value(&taps::OUTPUT_TWOFOLD)
+            ^ self.value(&taps::OUTPUT_THREEFOLD)
+            ^ self.value(&taps::OUTPUT_SINGLE)
+    }
+
+    fn next_b(self) -> bool
+        ensures { λ r. ⌜ r ≡ value (stateOf self) nextB ⌝ }
+    {
+        self.value(&taps::NEXT_B_SINGLE)
+            ^ self.value(&taps::NEXT_B_TWOFOLD_LOW)
+            ^ self.value(&taps::NEXT_B_TWOFOLD_HIGH)
+            ^ self.value(&taps::NEXT_B_FOURFOLD)
+            ^ self.value(&taps::NEXT_B_THREEFOLD)
+    }
+
+    fn next_s(self) -> bool
+        ensures { λ r. ⌜ r ≡ value (stateOf self) nextS ⌝ }
+    {
+        self.value(&taps::NEXT_S)
     }
 
     // One clock, with `f` added into both new bits.
     fn clock(self, f: bool) -> Engine
         ensures { λ r. ⌜ r ≡ engineOf (clock f (stateOf self)) ⌝ }
     {
-        let nb = self.value(&taps::NEXT_B) ^ f;
-        let ns = self.value(&taps::NEXT_S) ^ f;
+        let nb = self.next_b() ^ f;
+        let ns = self.next_s() ^ f;
         let b = self.b;
         let s = self.s;
         let b2 = b.push(nb);
