@@ -44,6 +44,7 @@
 //! ]);
 //! ```
 
+mod alike;
 pub mod book;
 pub mod frames;
 pub mod reader;

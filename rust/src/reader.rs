@@ -1,21 +1,10 @@
 //! The calls over a reader's block.
 
-use crate::{sys, Begin, Reply, UNWRITTEN};
+use crate::{alike, sys, Begin, Reply, UNWRITTEN};
 
 /// The state after a reset. Refused only for the block's length.
 pub fn reset(state: &mut [u8], reply: &mut [u8]) -> Reply {
-    let mut bits = UNWRITTEN;
-    // SAFETY: every pointer and length is a borrow's own.
-    let answer = unsafe {
-        sys::kusarehyon_reader_reset(
-            state.as_mut_ptr(),
-            state.len(),
-            reply.as_mut_ptr(),
-            reply.len(),
-            &mut bits,
-        )
-    };
-    Reply { answer, bits }
+    alike::reset(sys::kusarehyon_reader_reset, state, reply)
 }
 
 /// Begins an authentication. The reply is the step 0 command.
@@ -63,22 +52,7 @@ pub fn replied(state: &mut [u8], payload: &[u8], count: usize, reply: &mut [u8])
 /// A message to the tag: kind 1 comm, 2 secure; the first `count` bits of the data, 2,048 at
 /// most. The reply is the message.
 pub fn send(state: &mut [u8], kind: u8, data: &[u8], count: usize, reply: &mut [u8]) -> Reply {
-    let mut bits = UNWRITTEN;
-    // SAFETY: every pointer and length is a borrow's own.
-    let answer = unsafe {
-        sys::kusarehyon_reader_send(
-            state.as_mut_ptr(),
-            state.len(),
-            kind,
-            data.as_ptr(),
-            data.len(),
-            count,
-            reply.as_mut_ptr(),
-            reply.len(),
-            &mut bits,
-        )
-    };
-    Reply { answer, bits }
+    alike::message(sys::kusarehyon_reader_send, state, kind, data, count, reply)
 }
 
 /// A message of the tag's: kind 1 comm, 2 secure; the first `count` bits of the payload. The
@@ -90,20 +64,12 @@ pub fn receive(
     count: usize,
     reply: &mut [u8],
 ) -> Reply {
-    let mut bits = UNWRITTEN;
-    // SAFETY: every pointer and length is a borrow's own.
-    let answer = unsafe {
-        sys::kusarehyon_reader_receive(
-            state.as_mut_ptr(),
-            state.len(),
-            kind,
-            payload.as_ptr(),
-            payload.len(),
-            count,
-            reply.as_mut_ptr(),
-            reply.len(),
-            &mut bits,
-        )
-    };
-    Reply { answer, bits }
+    alike::message(
+        sys::kusarehyon_reader_receive,
+        state,
+        kind,
+        payload,
+        count,
+        reply,
+    )
 }

@@ -4,6 +4,23 @@
 //! to a number is not null; what a call may write overlaps nothing else that it is given. A call
 //! made from borrows alone keeps them.
 
+/// A reset: the block, the reply buffer, the bit count.
+pub type Reset = unsafe extern "C" fn(*mut u8, usize, *mut u8, usize, *mut usize) -> u8;
+
+/// A call on a message: the block, the kind, the bytes and their bit count, the reply buffer, the
+/// reply's bit count.
+pub type Message = unsafe extern "C" fn(
+    *mut u8,
+    usize,
+    u8,
+    *const u8,
+    usize,
+    usize,
+    *mut u8,
+    usize,
+    *mut usize,
+) -> u8;
+
 // SAFETY: each function is declared as the header declares it, and the archive defines it so.
 unsafe extern "C" {
     pub fn kusarehyon_tag_reset(

@@ -1,21 +1,10 @@
 //! The calls over a tag's block.
 
-use crate::{sys, Command, Reply, UNWRITTEN};
+use crate::{alike, sys, Command, Reply, UNWRITTEN};
 
 /// The state after a reset. Refused only for the block's length.
 pub fn reset(state: &mut [u8], reply: &mut [u8]) -> Reply {
-    let mut bits = UNWRITTEN;
-    // SAFETY: every pointer and length is a borrow's own.
-    let answer = unsafe {
-        sys::kusarehyon_tag_reset(
-            state.as_mut_ptr(),
-            state.len(),
-            reply.as_mut_ptr(),
-            reply.len(),
-            &mut bits,
-        )
-    };
-    Reply { answer, bits }
+    alike::reset(sys::kusarehyon_tag_reset, state, reply)
 }
 
 /// A command from the reader.
@@ -45,22 +34,14 @@ pub fn command(state: &mut [u8], command: &Command, reply: &mut [u8]) -> Reply {
 /// A response that the host wants: kind 4 comm, 5 secure; the first `count` bits of the data,
 /// 2,048 at most.
 pub fn response(state: &mut [u8], kind: u8, data: &[u8], count: usize, reply: &mut [u8]) -> Reply {
-    let mut bits = UNWRITTEN;
-    // SAFETY: every pointer and length is a borrow's own.
-    let answer = unsafe {
-        sys::kusarehyon_tag_response(
-            state.as_mut_ptr(),
-            state.len(),
-            kind,
-            data.as_ptr(),
-            data.len(),
-            count,
-            reply.as_mut_ptr(),
-            reply.len(),
-            &mut bits,
-        )
-    };
-    Reply { answer, bits }
+    alike::message(
+        sys::kusarehyon_tag_response,
+        state,
+        kind,
+        data,
+        count,
+        reply,
+    )
 }
 
 /// The tag closed, whatever its state: only a reset opens it. Answers 0, or 8.
