@@ -12,6 +12,7 @@ pub mod Fitting
 pub mod Refusing
 pub mod Answering
 pub mod Worked
+pub mod Limits
 pub mod Determined
 pub mod DeterminedCalls
 pub mod Sessions
