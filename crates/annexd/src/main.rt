@@ -5,7 +5,15 @@ use grain::Method;
 use grain::Register;
 use grain::Session;
 use grain::Width;
-use libc::STDOUT_FILENO;
+
+// The longest line: 21 of its head, 80 digits of five words, and its end.
+const LINE_BYTES: usize = 102;
+
+// A line's text, and the place behind what is written of it.
+struct Line {
+    bytes: [u8; LINE_BYTES],
+    at: usize,
+}
 
 // Keystream bits and MAC bits, and the generator after their pairs.
 struct Streams {
@@ -37,13 +45,13 @@ fn set_32(set: u64, key: Register, reader: u64, tag: u64, method: Method, secure
     registers(set, 4, loaded);
     let e = loaded.start();
     registers(set, 6, e);
-    let words = keystream_words(method);
-    pre_output(set, e, words);
+    let more = second_bits(method);
+    pre_output(set, e, more);
     let x = e.fill(Width::Mac32);
     number(32, set, 9, x.acc, 32);
     number(32, set, 10, x.reg, 32);
     let g = x.engine;
-    stream_lines(set, g, words);
+    stream_lines(set, g, more);
     let engine = keystreams(32, set, 13, g, method);
     let y = Session {
         engine,
@@ -78,12 +86,12 @@ fn inputs(mac: u64, set: u64, key: Register, reader: u64, tag: u64) {
     number(mac, set, 3, tag, 48);
 }
 
-// How many words of keystream an authentication takes.
-fn keystream_words(method: Method) -> u64 {
+// The bits of a second word of keystream, which only MA takes.
+fn second_bits(method: Method) -> usize {
     match method {
-        Method::Ta => 1,
-        Method::Ia => 1,
-        Method::Ma => 2,
+        Method::Ta => 0,
+        Method::Ia => 0,
+        Method::Ma => 64,
     }
 }
 
@@ -132,10 +140,7 @@ fn command(set: u64, x: Session, secure: bool) {
     number(32, set, 20, x.acc, 32);
     let whole = e.outputs(64);
     let rest = whole.engine.outputs(18);
-    head(32, set, 21);
-    digits(whole.word, 64);
-    digits(rest.word, 18);
-    end();
+    words(32, set, 21, whole.word, rest.word, 18);
     let s = split(e, 41);
     number(32, set, 22, s.key, 41);
     number(32, set, 23, s.mac, 41);
@@ -154,9 +159,9 @@ fn command(set: u64, x: Session, secure: bool) {
 // The message, and its length in bits.
 fn message(mac: u64, set: u64, line: u64) {
     number(mac, set, line, 0x12345678AB, 40);
-    head(mac, set, std::num::wrapping_add_u64(line, 1));
-    io::print_decimal(STDOUT_FILENO, 40);
-    end();
+    Line::begin(mac, set, std::num::wrapping_add_u64(line, 1))
+        .put(b"40")
+        .print();
 }
 
 // b and s, on two lines from `line` on.
@@ -166,44 +171,31 @@ fn registers(set: u64, line: u64, e: Engine) {
 }
 
 fn register(mac: u64, set: u64, line: u64, r: Register) {
-    head(mac, set, line);
-    digits(r.first, 64);
-    digits(r.last, 64);
-    end();
+    words(mac, set, line, r.first, r.last, 64);
 }
 
-// Line 8: accumulator and shift register, then the pairs of the keystream's words.
-fn pre_output(set: u64, e: Engine, words: u64) {
-    head(32, set, 8);
-    let g = outputs(outputs(outputs(e)));
-    if words == 2 {
-        outputs(outputs(g));
-    }
-    end();
+// Line 8: what fills accumulator and shift register, then the pairs of the keystream's words, two words for each.
+fn pre_output(set: u64, e: Engine, more: usize) {
+    let filling = e.outputs(64);
+    let first = filling.engine.outputs(64);
+    let second = first.engine.outputs(64);
+    let third = second.engine.outputs(64);
+    let fourth = third.engine.outputs(64);
+    Line::begin(32, set, 8)
+        .hex(filling.word, 64)
+        .hex(first.word, 64)
+        .hex(second.word, 64)
+        .hex(third.word, more)
+        .hex(fourth.word, more)
+        .print();
 }
 
-fn outputs(e: Engine) -> Engine {
-    let o = e.outputs(64);
-    digits(o.word, 64);
-    o.engine
-}
-
-// Lines 11 and 12.
-fn stream_lines(set: u64, e: Engine, words: u64) {
+// Lines 11 and 12: the keystream bits and the MAC bits of the same pairs.
+fn stream_lines(set: u64, e: Engine, more: usize) {
     let a = split(e, 64);
     let b = split(a.engine, 64);
-    head(32, set, 11);
-    digits(a.key, 64);
-    if words == 2 {
-        digits(b.key, 64);
-    }
-    end();
-    head(32, set, 12);
-    digits(a.mac, 64);
-    if words == 2 {
-        digits(b.mac, 64);
-    }
-    end();
+    words(32, set, 11, a.key, b.key, more);
+    words(32, set, 12, a.mac, b.mac, more);
 }
 
 fn split(e: Engine, n: usize) -> Streams {
@@ -224,62 +216,52 @@ fn split(e: Engine, n: usize) -> Streams {
 }
 
 fn number(mac: u64, set: u64, line: u64, x: u64, bits: usize) {
-    head(mac, set, line);
-    digits(x, bits);
-    end();
+    Line::begin(mac, set, line).hex(x, bits).print();
+}
+
+// A word, and the low `bits` bits of a second.
+fn words(mac: u64, set: u64, line: u64, first: u64, second: u64, bits: usize) {
+    Line::begin(mac, set, line)
+        .hex(first, 64)
+        .hex(second, bits)
+        .print();
 }
 
 fn missing(mac: u64, set: u64, line: u64) {
-    head(mac, set, line);
-    io::write_all(STDOUT_FILENO, b"N\\A");
-    end();
+    Line::begin(mac, set, line).put(b"N\\A").print();
 }
 
-fn head(mac: u64, set: u64, line: u64) {
-    io::write_all(STDOUT_FILENO, b"MAC");
-    io::print_decimal(STDOUT_FILENO, mac);
-    io::write_all(STDOUT_FILENO, b" set ");
-    io::print_decimal(STDOUT_FILENO, set);
-    io::write_all(STDOUT_FILENO, b" line ");
-    io::print_decimal(STDOUT_FILENO, line);
-    io::write_all(STDOUT_FILENO, b": ");
-}
-
-fn end() {
-    io::write_all(STDOUT_FILENO, b"\n");
-}
-
-// The low `bits` bits of x as whole bytes, zeros at the end, as Annex D writes them.
-fn digits(x: u64, bits: usize) {
-    let text = hex_text(x, bits);
-    write_first(&text, hex_len(bits));
-}
-
-fn write_first(text: &[u8], n: usize) {
-    if n <= text.len() {
-        io::write_all(STDOUT_FILENO, &text[..n]);
+impl Line {
+    // MAC, set and number.
+    fn begin(mac: u64, set: u64, number: u64) -> Line {
+        let mut bytes = [0u8; LINE_BYTES];
+        let at = text::put(&mut bytes, 0, b"MAC");
+        let at = text::decimal(&mut bytes, at, mac);
+        let at = text::put(&mut bytes, at, b" set ");
+        let at = text::decimal(&mut bytes, at, set);
+        let at = text::put(&mut bytes, at, b" line ");
+        let at = text::decimal(&mut bytes, at, number);
+        let at = text::put(&mut bytes, at, b": ");
+        Line { bytes, at }
     }
-}
 
-fn hex_text(x: u64, bits: usize) -> [u8; 16] {
-    let mut bytes = [0u8; 8];
-    bits::put(&mut bytes, 0, bits, x);
-    let mut text = [48u8; 16];
-    for i in 0..16usize {
-        text[i] = hex_digit(bits::field(&bytes, 4 * i, 4));
+    fn put(self, words: &[u8]) -> Line {
+        let mut bytes = self.bytes;
+        let at = text::put(&mut bytes, self.at, words);
+        Line { bytes, at }
     }
-    text
-}
 
-fn hex_len(bits: usize) -> usize {
-    2 * ((bits::word_bits(bits) + 7) / 8)
-}
+    // The low `bits` bits of x as whole bytes, zeros at the end, as Annex D writes them.
+    fn hex(self, x: u64, bits: usize) -> Line {
+        let mut value = [0u8; 8];
+        bits::put(&mut value, 0, bits, x);
+        let mut bytes = self.bytes;
+        let at = text::hex(&mut bytes, self.at, &value, (bits::word_bits(bits) + 7) / 8);
+        Line { bytes, at }
+    }
 
-fn hex_digit(n: u64) -> u8 {
-    let d = n % 16;
-    if d < 10 {
-        (48 + d) as u8
-    } else {
-        (55 + d) as u8
+    fn print(self) {
+        let mut bytes = self.bytes;
+        console::print(&mut bytes, self.at);
     }
 }

@@ -5,12 +5,12 @@ ghost use Prim.Native.Nat.{_≤_};
 ghost use Rattle.book.specs.Book.{recordsOf, keyIds, rising, soundOf, placeIn, keyOf};
 
 // No sound book has more records.
-pub const LIMIT: usize = 16;
+const LIMIT: usize = 16;
 
 pub const KEY_BYTES: usize = 16;
 
 // A KeyID, and its key.
-pub const RECORD_BYTES: usize = 1 + KEY_BYTES;
+const RECORD_BYTES: usize = 1 + KEY_BYTES;
 
 // Whether the book is one that no call refuses with 1.
 pub fn sound(book: &[u8]) -> bool

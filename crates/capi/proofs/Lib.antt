@@ -1,4 +1,2 @@
 -- Laws of `capi`.
-pub mod Numbers
 pub mod Calls
-pub mod Back

@@ -3,22 +3,24 @@ use mathlib.Core.Bool.{Bool, cond, not}
 use mathlib.Core.List.{List, [], _∷_}
 use mathlib.Core.Path.{_≡_}
 use Prim.Native.Nat.{ℕ}
-use lib.Dec.{eqb, ltb}
+use lib.Dec.{eqb}
 use lib.ListN.{length}
 use Rattle.bits.specs.Bytes.{bitsOfBytes}
-use Rattle.bits.specs.Area.{shown, areaBytes}
+use Rattle.bits.specs.Area.{shown}
 use Rattle.book.specs.Book as Book
 use Rattle.frames.specs.declared.Scanned.{Scanned}
 use Rattle.frames.specs.declared.Written.{Written}
-use Rattle.frames.specs.Refusal as Frames
-use Rattle.suite.specs.declared.Answer.the-variants.{Done, BadBook, SmallBuffer, UnknownKey, BadState}
-use Rattle.suite.specs.declared.Tag.{Tag}
-use Rattle.suite.specs.declared.Reader.{Reader}
-use Rattle.suite.specs.Answers.{numberOf}
-use Rattle.suite.specs.TagRules.{Command, Response}
-use Rattle.suite.specs.TagWork.{Result, resetOf, commandOf, responseOf, closedTag, errorTypeOf}
-use Rattle.suite.specs.ReaderWork.{ReaderResult, readerReset, beginOf, repliedOf, sendingOf, receivingOf}
-use Rattle.capi.specs.Blocks.{tagBytes, spellsTag, tagIn, tagBlock, readerBytes, spellsReader, readerIn, readerBlock}
+use Rattle.counts.specs.Refusal as Counts
+use Rattle.rules.specs.declared.Answer.the-variants.{Done, BadBook, SmallBuffer, UnknownKey, BadState}
+use Rattle.rules.specs.Answers.{numberOf}
+use Rattle.rules.specs.Calls.{Command, Message, Begin, smallRoom}
+use Rattle.rules.specs.Results.{Result}
+use Rattle.states.specs.declared.tag.TagState.{TagState}
+use Rattle.states.specs.declared.reader.ReaderState.{ReaderState}
+use Rattle.states.specs.TagStates.{closedTag}
+use Rattle.machines.specs.TagWork.{resetOf, commandOf, responseOf, errorTypeOf}
+use Rattle.machines.specs.ReaderWork.{readerReset, beginOf, repliedOf, sendingOf, receivingOf}
+use Rattle.blocks.specs.Blocks.{tagBytes, spellsTag, tagIn, tagBlock, readerBytes, spellsReader, readerIn, readerBlock}
 
 -- the block after a call, the number answered, the reply
 pub record Called : Type 0 where
@@ -34,30 +36,46 @@ pub record Leaves (x : Called) (answer bits : ℕ) (block before after : List �
   pub replied : after ≡ shown (x .reply) before
 
 -- refused: the block is kept, and the reply has no bits
-abbrev pub refusedBy : ℕ → List ℕ → Called
-refusedBy answer block = record { block = block; answer = answer; reply = [] }
+abbrev pub keptWith : ℕ → List ℕ → Called
+keptWith answer block = record { block = block; answer = answer; reply = [] }
+
+-- ---- a call over a block, of either machine
+
+-- a block's length, whether it spells a state, which, and the block of a state
+pub record Blocks (S : Type 0) : Type 0 where
+  pub bytes : ℕ
+  pub spells : List ℕ → Bool
+  pub stateIn : List ℕ → S
+  pub blockOf : S → List ℕ
+
+-- "ANSWERS, by number", and the block of the next state
+abbrev pub gave : {S : Type 0} → Blocks S → Result S → Called
+gave b r = record { block = b .blockOf (r .next); answer = numberOf (r .answer); reply = r .reply }
+
+-- a block that "spells no state": "It is answered 8 and kept"
+unfoldable pub called : {S : Type 0} → Blocks S → List ℕ → (S → Result S) → Called
+called b block call = cond (b .spells block) (gave b (call (b .stateIn block))) (keptWith (numberOf BadState) block)
+
+-- a reset takes any bytes, and asks only for the block's length
+unfoldable pub resetCalled : {S : Type 0} → Blocks S → List ℕ → Result S → Called
+resetCalled b block reset = cond (eqb (length block) (b .bytes)) (gave b reset) (keptWith (numberOf BadState) block)
 
 -- ---- the tag
 
--- "ANSWERS, by number", and the block of the next state
-abbrev pub tagGave : Result → Called
-tagGave r = record { block = tagBlock (r .tag); answer = numberOf (r .answer); reply = r .reply }
+abbrev pub tagBlocks : Blocks TagState
+tagBlocks = record { bytes = tagBytes; spells = spellsTag; stateIn = tagIn; blockOf = tagBlock }
 
--- a block that "spells no state": "It is answered 8 and kept"
-unfoldable pub tagCalled : List ℕ → (Tag → Result) → Called
-tagCalled block call = cond (spellsTag block) (tagGave (call (tagIn block))) (refusedBy (numberOf BadState) block)
-
--- a reset takes any bytes, and asks only for the block's length
-unfoldable pub tagResetCalled : List ℕ → Called
-tagResetCalled block = cond (eqb (length block) tagBytes) (tagGave resetOf) (refusedBy (numberOf BadState) block)
+-- `kusarehyon_tag_reset`
+abbrev pub tagResetCalled : List ℕ → Called
+tagResetCalled block = resetCalled tagBlocks block resetOf
 
 -- `kusarehyon_tag_command`
-unfoldable pub commandCalled : List ℕ → Command → Called
-commandCalled block command = tagCalled block (λ (t : Tag). commandOf t command)
+abbrev pub commandCalled : List ℕ → Command → ℕ → Called
+commandCalled block command room = called tagBlocks block (λ (t : TagState). commandOf t command room)
 
 -- `kusarehyon_tag_response`
-unfoldable pub responseCalled : List ℕ → Response → Called
-responseCalled block response = tagCalled block (λ (t : Tag). responseOf t response)
+abbrev pub responseCalled : List ℕ → Message → ℕ → Called
+responseCalled block response room = called tagBlocks block (λ (t : TagState). responseOf t response room)
 
 -- `kusarehyon_tag_close`: "Answers 0, or 8"
 unfoldable pub closeAnswer : List ℕ → ℕ
@@ -73,33 +91,28 @@ errorTypeCalled block = cond (spellsTag block) (errorTypeOf (tagIn block)) (numb
 
 -- ---- the reader
 
--- "ANSWERS, by number", and the block of the next state
-abbrev pub readerGave : ReaderResult → Called
-readerGave r = record { block = readerBlock (r .reader); answer = numberOf (r .answer); reply = r .reply }
+abbrev pub readerBlocks : Blocks ReaderState
+readerBlocks = record { bytes = readerBytes; spells = spellsReader; stateIn = readerIn; blockOf = readerBlock }
 
--- a block that "spells no state": "It is answered 8 and kept"
-unfoldable pub readerCalled : List ℕ → (Reader → ReaderResult) → Called
-readerCalled block call = cond (spellsReader block) (readerGave (call (readerIn block))) (refusedBy (numberOf BadState) block)
-
--- a reset takes any bytes, and asks only for the block's length
-unfoldable pub readerResetCalled : List ℕ → Called
-readerResetCalled block = cond (eqb (length block) readerBytes) (readerGave readerReset) (refusedBy (numberOf BadState) block)
+-- `kusarehyon_reader_reset`
+abbrev pub readerResetCalled : List ℕ → Called
+readerResetCalled block = resetCalled readerBlocks block readerReset
 
 -- `kusarehyon_reader_begin`
-unfoldable pub beginCalled : List ℕ → ℕ → ℕ → ℕ → ℕ → List ℕ → ℕ → Called
-beginCalled block method options keyid number book room = readerCalled block (λ (r : Reader). beginOf r method options keyid number book room)
+abbrev pub beginCalled : List ℕ → Begin → ℕ → Called
+beginCalled block begin room = called readerBlocks block (λ (r : ReaderState). beginOf r begin room)
 
 -- `kusarehyon_reader_replied`
-unfoldable pub repliedCalled : List ℕ → List ℕ → ℕ → ℕ → Called
-repliedCalled block payload count room = readerCalled block (λ (r : Reader). repliedOf r payload count room)
+abbrev pub repliedCalled : List ℕ → List ℕ → ℕ → ℕ → Called
+repliedCalled block payload count room = called readerBlocks block (λ (r : ReaderState). repliedOf r payload count room)
 
 -- `kusarehyon_reader_send`
-unfoldable pub sendCalled : List ℕ → ℕ → List ℕ → ℕ → ℕ → Called
-sendCalled block kind plain count room = readerCalled block (λ (r : Reader). sendingOf r kind plain count room)
+abbrev pub sendCalled : List ℕ → Message → ℕ → Called
+sendCalled block message room = called readerBlocks block (λ (r : ReaderState). sendingOf r message room)
 
 -- `kusarehyon_reader_receive`
-unfoldable pub receiveCalled : List ℕ → ℕ → List ℕ → ℕ → ℕ → Called
-receiveCalled block kind payload count room = readerCalled block (λ (r : Reader). receivingOf r kind payload count room)
+abbrev pub receiveCalled : List ℕ → Message → ℕ → Called
+receiveCalled block message room = called readerBlocks block (λ (r : ReaderState). receivingOf r message room)
 
 -- ---- the key book: a call with no block
 
@@ -110,18 +123,18 @@ keyGiven key = record { block = []; answer = numberOf Done; reply = bitsOfBytes 
 -- in document 01's order: 2, 1, 5
 unfoldable pub findCalled : List ℕ → ℕ → ℕ → Called
 findCalled book keyid room =
-    cond (ltb room areaBytes) (refusedBy (numberOf SmallBuffer) [])
-    (cond (not (Book.soundOf book)) (refusedBy (numberOf BadBook) [])
-    (cond (not (Book.knownOf keyid book)) (refusedBy (numberOf UnknownKey) []) (keyGiven (Book.keyOf keyid book))))
+    cond (smallRoom room) (keptWith (numberOf SmallBuffer) [])
+    (cond (not (Book.soundOf book)) (keptWith (numberOf BadBook) [])
+    (cond (not (Book.knownOf keyid book)) (keptWith (numberOf UnknownKey) []) (keyGiven (Book.keyOf keyid book))))
 
 -- ---- host frames: answer, kind, count, start, end; and answer, next place
 
 -- "Refused with 20 to 23, and then the four numbers are 0"
 unfoldable pub scannedNumbers : Scanned → List ℕ
-scannedNumbers (Scanned.Refused why) = Frames.numberOf why ∷ 0 ∷ 0 ∷ 0 ∷ 0 ∷ []
+scannedNumbers (Scanned.Refused why) = Counts.numberOf why ∷ 0 ∷ 0 ∷ 0 ∷ 0 ∷ []
 scannedNumbers (Scanned.Frame kind count start end) = 0 ∷ kind ∷ count ∷ start ∷ end ∷ []
 
 -- "Refused with 20 to 24: then out is as it was, and *next is 0"
 unfoldable pub writtenNumbers : Written → List ℕ
-writtenNumbers (Written.Refused why) = Frames.numberOf why ∷ 0 ∷ []
+writtenNumbers (Written.Refused why) = Counts.numberOf why ∷ 0 ∷ []
 writtenNumbers (Written.Done next) = 0 ∷ next ∷ []

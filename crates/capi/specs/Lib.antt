@@ -1,3 +1,2 @@
 -- What the contracts of `capi` cite.
-pub mod Blocks
 pub mod Calls

@@ -1,20 +1,17 @@
 // The suite for programs in C and Rust, over numbers and lent bytes; include/kusarehyon.h says what each function does. No function
-// here has a `requires` but for the private workers: any call, with any bytes, gets an answer.
-mod block;
-
+// here has a `requires`: any call, with any bytes, gets an answer.
 ghost use mathlib.Core.Path.{_≡_};
 ghost use mathlib.Core.List.{[], _∷_};
 ghost use lib.ListN.{length};
 ghost use Rattle.bits.specs.Area.{shown};
 ghost use Rattle.book.specs.Book.{soundOf};
 ghost use Rattle.frames.specs.Frame.{scanOf, writtenOf, outAfter};
-ghost use Rattle.suite.specs.Answers.{numberOf};
-ghost use Rattle.suite.specs.TagRules.{Command, Response};
-ghost use Rattle.capi.specs.Blocks.{tagBytes, tagBlock, readerBytes, readerBlock};
+ghost use Rattle.rules.specs.Answers.{numberOf};
+ghost use Rattle.blocks.specs.Blocks.{storedIn, tagBytes, tagBlock, readerBytes, readerBlock};
 ghost use Rattle.capi.specs.Calls.{Leaves, tagResetCalled, commandCalled, responseCalled, closeAnswer, closedBlock, errorTypeCalled, readerResetCalled, beginCalled, repliedCalled, sendCalled, receiveCalled, findCalled, scannedNumbers, writtenNumbers};
 use frames::Scanned;
 use frames::Written;
-use suite::Answer;
+use rules::Answer;
 use suite::Reader;
 use suite::ReaderStep;
 use suite::Step;
@@ -30,7 +27,7 @@ pub extern "C" fn kusarehyon_tag_reset(state: &mut [u8], reply: &mut [u8], bits:
     ensures { λ r. ⌜ Leaves (tagResetCalled (now (state .entry)))
         r (now (bits .exit)) (now (state .exit)) (now (reply .entry)) (now (reply .exit)) ⌝ }
 {
-    if state.len() != block::TAG_BYTES {
+    if state.len() != blocks::tag::BYTES {
         return refused(Answer::BadState, reply, bits);
     }
     let step = Tag::reset(reply);
@@ -49,13 +46,15 @@ pub extern "C" fn kusarehyon_tag_command(
     reply: &mut [u8],
     bits: &mut usize,
 ) -> u8
-    ensures { λ r. ⌜ Leaves (commandCalled (now (state .entry)) (record { kind = kind; payload = now (payload .entry); count = count; features = features; book = now (book .entry); number = number; room = length (now (reply .entry)) }))
+    ensures { λ r. ⌜ Leaves (commandCalled (now (state .entry)) (record { kind = kind; payload = now (payload .entry); count = count; features = features; book = now (book .entry); number = number }) (length (now (reply .entry))))
         r (now (bits .exit)) (now (state .exit)) (now (reply .entry)) (now (reply .exit)) ⌝ }
 {
-    if !block::spells_tag(state) {
+    if !blocks::tag::spells(state) {
         return refused(Answer::BadState, reply, bits);
     }
-    let tag = block::tag(state);
+    let tag = Tag {
+        state: blocks::tag::read(state),
+    };
     let step = tag.command(kind, payload, count, features, book, number, reply);
     stepped(state, step, bits)
 }
@@ -69,13 +68,15 @@ pub extern "C" fn kusarehyon_tag_response(
     reply: &mut [u8],
     bits: &mut usize,
 ) -> u8
-    ensures { λ r. ⌜ Leaves (responseCalled (now (state .entry)) (record { kind = kind; payload = now («data» .entry); count = count; room = length (now (reply .entry)) }))
+    ensures { λ r. ⌜ Leaves (responseCalled (now (state .entry)) (record { kind = kind; payload = now («data» .entry); count = count }) (length (now (reply .entry))))
         r (now (bits .exit)) (now (state .exit)) (now (reply .entry)) (now (reply .exit)) ⌝ }
 {
-    if !block::spells_tag(state) {
+    if !blocks::tag::spells(state) {
         return refused(Answer::BadState, reply, bits);
     }
-    let tag = block::tag(state);
+    let tag = Tag {
+        state: blocks::tag::read(state),
+    };
     let step = tag.response(kind, data, count, reply);
     stepped(state, step, bits)
 }
@@ -85,11 +86,14 @@ pub extern "C" fn kusarehyon_tag_close(state: &mut [u8]) -> u8
     ensures { λ r. ⌜ r ≡ closeAnswer (now (state .entry)) ⌝ }
     ensures { λ _. ⌜ now (state .exit) ≡ closedBlock (now (state .entry)) ⌝ }
 {
-    if !block::spells_tag(state) {
+    if !blocks::tag::spells(state) {
         return Answer::BadState.number();
     }
-    let tag = block::tag(state);
-    block::put_tag(state, tag.close());
+    let tag = Tag {
+        state: blocks::tag::read(state),
+    };
+    let closed = tag.close();
+    blocks::tag::store(state, closed.state);
     Answer::Done.number()
 }
 
@@ -97,10 +101,12 @@ pub extern "C" fn kusarehyon_tag_close(state: &mut [u8]) -> u8
 pub extern "C" fn kusarehyon_tag_error_type(state: &[u8]) -> u8
     ensures { λ r. ⌜ r ≡ errorTypeCalled (now (state .entry)) ⌝ }
 {
-    if !block::spells_tag(state) {
+    if !blocks::tag::spells(state) {
         return Answer::BadState.number();
     }
-    let tag = block::tag(state);
+    let tag = Tag {
+        state: blocks::tag::read(state),
+    };
     tag.error_type()
 }
 
@@ -115,7 +121,7 @@ pub extern "C" fn kusarehyon_reader_reset(
     ensures { λ r. ⌜ Leaves (readerResetCalled (now (state .entry)))
         r (now (bits .exit)) (now (state .exit)) (now (reply .entry)) (now (reply .exit)) ⌝ }
 {
-    if state.len() != block::READER_BYTES {
+    if state.len() != blocks::reader::BYTES {
         return refused(Answer::BadState, reply, bits);
     }
     let step = Reader::reset(reply);
@@ -133,13 +139,15 @@ pub extern "C" fn kusarehyon_reader_begin(
     reply: &mut [u8],
     bits: &mut usize,
 ) -> u8
-    ensures { λ r. ⌜ Leaves (beginCalled (now (state .entry)) method options keyid number (now (book .entry)) (length (now (reply .entry))))
+    ensures { λ r. ⌜ Leaves (beginCalled (now (state .entry)) (record { method = method; options = options; keyid = keyid; number = number; book = now (book .entry) }) (length (now (reply .entry))))
         r (now (bits .exit)) (now (state .exit)) (now (reply .entry)) (now (reply .exit)) ⌝ }
 {
-    if !block::spells_reader(state) {
+    if !blocks::reader::spells(state) {
         return refused(Answer::BadState, reply, bits);
     }
-    let reader = block::reader(state);
+    let reader = Reader {
+        state: blocks::reader::read(state),
+    };
     let step = reader.begin(method, options, keyid, number, book, reply);
     reader_stepped(state, step, bits)
 }
@@ -155,10 +163,12 @@ pub extern "C" fn kusarehyon_reader_replied(
     ensures { λ r. ⌜ Leaves (repliedCalled (now (state .entry)) (now (payload .entry)) count (length (now (reply .entry))))
         r (now (bits .exit)) (now (state .exit)) (now (reply .entry)) (now (reply .exit)) ⌝ }
 {
-    if !block::spells_reader(state) {
+    if !blocks::reader::spells(state) {
         return refused(Answer::BadState, reply, bits);
     }
-    let reader = block::reader(state);
+    let reader = Reader {
+        state: blocks::reader::read(state),
+    };
     let step = reader.replied(payload, count, reply);
     reader_stepped(state, step, bits)
 }
@@ -172,13 +182,15 @@ pub extern "C" fn kusarehyon_reader_send(
     reply: &mut [u8],
     bits: &mut usize,
 ) -> u8
-    ensures { λ r. ⌜ Leaves (sendCalled (now (state .entry)) kind (now («data» .entry)) count (length (now (reply .entry))))
+    ensures { λ r. ⌜ Leaves (sendCalled (now (state .entry)) (record { kind = kind; payload = now («data» .entry); count = count }) (length (now (reply .entry))))
         r (now (bits .exit)) (now (state .exit)) (now (reply .entry)) (now (reply .exit)) ⌝ }
 {
-    if !block::spells_reader(state) {
+    if !blocks::reader::spells(state) {
         return refused(Answer::BadState, reply, bits);
     }
-    let reader = block::reader(state);
+    let reader = Reader {
+        state: blocks::reader::read(state),
+    };
     let step = reader.send(kind, data, count, reply);
     reader_stepped(state, step, bits)
 }
@@ -192,13 +204,15 @@ pub extern "C" fn kusarehyon_reader_receive(
     reply: &mut [u8],
     bits: &mut usize,
 ) -> u8
-    ensures { λ r. ⌜ Leaves (receiveCalled (now (state .entry)) kind (now (payload .entry)) count (length (now (reply .entry))))
+    ensures { λ r. ⌜ Leaves (receiveCalled (now (state .entry)) (record { kind = kind; payload = now (payload .entry); count = count }) (length (now (reply .entry))))
         r (now (bits .exit)) (now (state .exit)) (now (reply .entry)) (now (reply .exit)) ⌝ }
 {
-    if !block::spells_reader(state) {
+    if !blocks::reader::spells(state) {
         return refused(Answer::BadState, reply, bits);
     }
-    let reader = block::reader(state);
+    let reader = Reader {
+        state: blocks::reader::read(state),
+    };
     let step = reader.receive(kind, payload, count, reply);
     reader_stepped(state, step, bits)
 }
@@ -222,7 +236,7 @@ pub extern "C" fn kusarehyon_book_find(
     ensures { λ r. ⌜ Leaves (findCalled (now (book .entry)) keyid (length (now (reply .entry))))
         r (now (bits .exit)) [] (now (reply .entry)) (now (reply .exit)) ⌝ }
 {
-    if reply.len() < Tag::REPLY_BYTES {
+    if reply.len() < bits::AREA_BYTES {
         return refused(Answer::SmallBuffer, reply, bits);
     }
     if !book::sound(book) {
@@ -309,27 +323,25 @@ fn refused(answer: Answer, reply: &mut [u8], bits: &mut usize) -> u8
 }
 
 fn stepped(state: &mut [u8], step: Step, bits: &mut usize) -> u8
-    requires { ⌜ length (now state) ≡ tagBytes ⌝ }
     ensures { λ r. ⌜ r ≡ numberOf (step .answer) ⌝ }
     ensures { λ _. ⌜ now (bits .exit) ≡ step .bits ⌝ }
-    ensures { λ _. ⌜ now (state .exit) ≡ tagBlock (step .tag) ⌝ }
+    ensures { λ _. ⌜ now (state .exit) ≡ storedIn tagBytes (tagBlock (step .next .state)) (now (state .entry)) ⌝ }
 {
     let answer = step.answer;
-    let tag = step.tag;
-    block::put_tag(state, tag);
+    let next = step.next;
+    blocks::tag::store(state, next.state);
     *bits = step.bits;
     answer.number()
 }
 
 fn reader_stepped(state: &mut [u8], step: ReaderStep, bits: &mut usize) -> u8
-    requires { ⌜ length (now state) ≡ readerBytes ⌝ }
     ensures { λ r. ⌜ r ≡ numberOf (step .answer) ⌝ }
     ensures { λ _. ⌜ now (bits .exit) ≡ step .bits ⌝ }
-    ensures { λ _. ⌜ now (state .exit) ≡ readerBlock (step .reader) ⌝ }
+    ensures { λ _. ⌜ now (state .exit) ≡ storedIn readerBytes (readerBlock (step .next .state)) (now (state .entry)) ⌝ }
 {
     let answer = step.answer;
-    let reader = step.reader;
-    block::put_reader(state, reader);
+    let next = step.next;
+    blocks::reader::store(state, next.state);
     *bits = step.bits;
     answer.number()
 }

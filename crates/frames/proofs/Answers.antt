@@ -7,46 +7,19 @@ use native.Mathlib.Omega.{arith}
 use lib.Dec.{eqb, ltb}
 use lib.ListN.{length, getD, take, drop, length-append}
 use lib.Seq.{drop-cons, drop-drop, length-take-le, sets}
-use borrow.Author.Tests.{le-ltb, ltb-false, eqb-true, eqb-false}
+use borrow.Author.Tests.{ltb-false, eqb-false}
 use Rattle.bits.proofs.Bytes.{Octets}
-use Rattle.frames.specs.Count.{countBytes, countAt}
-use Rattle.frames.specs.Frame.{reset, mostBits, limitOf, sizeOf, unusedOf, checkOf, framed, afterCount, scanOf, frameOf, placed, writtenOf}
-use Rattle.frames.specs.declared.Checked.{Checked}
+use Rattle.bits.proofs.Lists.{sets-append}
+use Rattle.counts.specs.Count.{countBytes, countAt}
+use Rattle.counts.specs.Payload.{sizeOf, checkOf}
+use Rattle.counts.specs.declared.Checked.{Checked}
+use Rattle.counts.specs.declared.Counted.{Counted}
+use Rattle.counts.proofs.Cases.{cond-has}
+use Rattle.counts.proofs.Counts.{CountRead, count-read}
+use Rattle.counts.proofs.Payloads.{Fit, fit-of}
+use Rattle.frames.specs.Frame.{reset, mostBits, limitOf, framed, afterCount, scanOf, frameOf, placed, writtenOf}
 use Rattle.frames.specs.declared.Scanned.{Scanned}
 use Rattle.frames.specs.declared.Written.{Written}
-use Rattle.frames.specs.declared.count.Counted.{Counted}
-use Rattle.frames.proofs.Cases.{cond-has}
-use Rattle.frames.proofs.Counts.{CountRead, count-read}
-use Rattle.bits.proofs.Lists.{sets-append}
-
--- ---- a count and a payload that are fine
-
-pub record Fit (kind count : ℕ) (payload : List ℕ) : Type 0 where
-  pub small : count ≤ limitOf kind
-  pub long : sizeOf count ≤ length payload
-  pub zeros : unusedOf count payload ≡ 0
-
-abbrev FitIf : ℕ → ℕ → List ℕ → Checked → Type 0
-FitIf kind count payload (Checked.Refused why) = Unit {0}
-FitIf kind count payload Checked.Fine = Fit kind count payload
-
-pub fit-of : (kind count : ℕ) (payload : List ℕ) → checkOf kind count payload ≡ Checked.Fine → Fit kind count payload
-unfolding checkOf
-fit-of kind count payload e = subst P e told
-  where
-    P : Checked → Type 0
-    P = FitIf kind count payload
-
-    told : P (checkOf kind count payload)
-    told =
-        cond-has P (ltb (limitOf kind) count) (λ _. tt)
-        (λ c. cond-has P (ltb (length payload) (sizeOf count)) (λ _. tt)
-        (λ l. cond-has P (eqb (unusedOf count payload) 0)
-        (λ z. record { small = ltb-false _ _ c; long = ltb-false _ _ l; zeros = eqb-true _ _ z }) (λ _. tt)))
-
-pub fine-of : (kind count : ℕ) (payload : List ℕ) → Fit kind count payload → checkOf kind count payload ≡ Checked.Fine
-unfolding checkOf
-fine-of kind count payload f = simp (le-ltb _ _ (f .small), le-ltb _ _ (f .long), f .zeros)
 
 -- ---- a frame that is read
 
@@ -54,7 +27,7 @@ pub record FrameRead (s : List ℕ) (kind count start end : ℕ) : Type 0 where
   pub low : kind ≤ reset
   pub head : s ≡ (kind ∷ countBytes count) ++ drop start s
   pub starts : start ≡ length (kind ∷ countBytes count)
-  pub fit : Fit kind count (drop start s)
+  pub fit : Fit (limitOf kind) count (drop start s)
   pub ends : end ≡ start + sizeOf count
 
 abbrev ReadIf : List ℕ → Scanned → Type 0
@@ -63,7 +36,7 @@ ReadIf s (Scanned.Frame kind count start end) = FrameRead s kind count start end
 
 module _ (s : List ℕ) (b : Octets s) (some : 0 < length s) (low : getD s 0 0 ≤ reset) where
   read-framed : (count start : ℕ) → countAt s 1 mostBits ≡ Counted.Is count start → (r : Checked)
-      → checkOf (getD s 0 0) count (drop start s) ≡ r → ReadIf s (framed (getD s 0 0) count start r)
+      → checkOf (limitOf (getD s 0 0)) count (drop start s) ≡ r → ReadIf s (framed (getD s 0 0) count start r)
   unfolding framed
   read-framed count start e (Checked.Refused why) f = tt
   read-framed count start e Checked.Fine f =
@@ -74,14 +47,14 @@ module _ (s : List ℕ) (b : Octets s) (some : 0 < length s) (low : getD s 0 0 �
         low = low;
         head = drop-cons s 0 0 some ∙ ap (λ (l : List ℕ). getD s 0 0 ∷ l) (rw rest at (r .bytes));
         starts = starts;
-        fit = fit-of (getD s 0 0) count (drop start s) f;
+        fit = fit-of (limitOf (getD s 0 0)) count (drop start s) f;
         ends = refl;
       }
 
   read-counted : (r : Counted) → countAt s 1 mostBits ≡ r → ReadIf s (afterCount s (getD s 0 0) r)
   unfolding afterCount
   read-counted (Counted.Refused why) e = tt
-  read-counted (Counted.Is count start) e = read-framed count start e (checkOf (getD s 0 0) count (drop start s)) refl
+  read-counted (Counted.Is count start) e = read-framed count start e (checkOf (limitOf (getD s 0 0)) count (drop start s)) refl
 
 pub frame-read : (s : List ℕ) (kind count start end : ℕ) → Octets s → scanOf s ≡ Scanned.Frame kind count start end
     → FrameRead s kind count start end
@@ -120,7 +93,7 @@ frame-runs out at kind count payload =
 
 pub record FrameWritten (len at kind count : ℕ) (payload : List ℕ) (next : ℕ) : Type 0 where
   pub low : kind ≤ reset
-  pub fit : Fit kind count payload
+  pub fit : Fit (limitOf kind) count payload
   pub ends : next ≡ at + length (frameOf kind count payload)
   pub room : next ≤ len
 
@@ -136,12 +109,12 @@ frame-written len at kind count payload next e = subst P e told
     P : Written → Type 0
     P = WrittenIf len at kind count payload
 
-    after : (r : Checked) → kind ≤ reset → checkOf kind count payload ≡ r
+    after : (r : Checked) → kind ≤ reset → checkOf (limitOf kind) count payload ≡ r
         → P (placed len (at + length (frameOf kind count payload)) r)
     after (Checked.Refused why) k f = tt
     after Checked.Fine k f =
         cond-has P (ltb len (at + length (frameOf kind count payload))) (λ _. tt)
-        (λ r. record { low = k; fit = fit-of kind count payload f; ends = refl; room = ltb-false _ _ r })
+        (λ r. record { low = k; fit = fit-of (limitOf kind) count payload f; ends = refl; room = ltb-false _ _ r })
 
     told : P (writtenOf len at kind count payload)
-    told = cond-has P (ltb reset kind) (λ _. tt) (λ k. after (checkOf kind count payload) (ltb-false _ _ k) refl)
+    told = cond-has P (ltb reset kind) (λ _. tt) (λ k. after (checkOf (limitOf kind) count payload) (ltb-false _ _ k) refl)

@@ -1,7 +1,4 @@
 -- The laws of `frames`. Other crates cite those marked `pub`.
-mod Cases
-pub mod Counts
-mod Tails
-mod Bits
+mod Runs
 pub mod Answers
 pub mod RoundTrip

@@ -7,32 +7,21 @@ use native.Mathlib.Nat.{zero-add}
 use native.Mathlib.Numerals.{one-add}
 use native.Mathlib.Omega.{arith}
 use lib.Dec.{eqb, eqb·suc-zero}
-use lib.ListN.{length, take, drop, length-append, length-drop}
+use lib.ListN.{length, take, drop, length-drop}
 use lib.Seq.{length-take-le, drop-append-seam, take-at, take-take, take-append-add, sets-eq}
 use borrow.Author.Tests.{le-ltb}
 use Rattle.bits.proofs.Bytes.{Octets}
 use Rattle.bits.specs.Bytes.{bitsOfBytes}
-use Rattle.frames.specs.Count.{countBytes}
-use Rattle.frames.specs.Frame.{reset, mostBits, limitOf, sizeOf, unusedOf, checkOf, framed, afterCount, scanOf, partOf, payloadOf, frameOf, placed, writtenOf, changed, outAfter}
+use Rattle.counts.specs.Count.{countBytes}
+use Rattle.counts.specs.Payload.{sizeOf, unusedOf, checkOf}
+use Rattle.counts.proofs.Cases.{cond-has}
+use Rattle.counts.proofs.Counts.{count-back}
+use Rattle.counts.proofs.Payloads.{Fit, fine-of, fit-front, front-bits, same-payload}
+use Rattle.counts.proofs.Tails.{drop-run}
+use Rattle.frames.specs.Frame.{reset, mostBits, limitOf, framed, afterCount, scanOf, partOf, payloadOf, frameOf, placed, writtenOf, changed, outAfter}
 use Rattle.frames.specs.declared.Scanned.the-variants.{Frame}
 use Rattle.frames.specs.declared.Written.the-variants.{Done}
-use Rattle.frames.proofs.Answers.{Fit, fine-of, FrameRead, frame-read, frame-within, frame-length, FrameWritten, frame-written}
-use Rattle.frames.proofs.Bits.{front-bits, same-payload}
-use Rattle.frames.proofs.Cases.{cond-has}
-use Rattle.frames.proofs.Counts.{count-back}
-use Rattle.frames.proofs.Tails.{drop-run}
-
--- only the payload's own bytes are looked at
-fit-front : (kind count : ℕ) (p rest : List ℕ) → Fit kind count p → Fit kind count (take (sizeOf count) p ++ rest)
-unfolding unusedOf
-fit-front kind count p rest f =
-    let own : List ℕ = take (sizeOf count) p in
-    let size : length own ≡ sizeOf count = length-take-le (sizeOf count) p (f .long) in
-    record {
-      small = f .small;
-      long = rw length-append (omega arith);
-      zeros = rw (take-at own rest (sizeOf count) size) (f .zeros);
-    }
+use Rattle.frames.proofs.Answers.{FrameRead, frame-read, frame-within, frame-length, FrameWritten, frame-written}
 
 limit-le : (kind : ℕ) → limitOf kind ≤ mostBits
 unfolding limitOf
@@ -40,7 +29,7 @@ limit-le kind = cond-has (λ (n : ℕ). n ≤ mostBits) (eqb kind reset) (λ _. 
 
 -- ---- what is written reads back the same
 
-module _ (kind count : ℕ) (p rest : List ℕ) (low : kind ≤ reset) (f : Fit kind count p) where
+module _ (kind count : ℕ) (p rest : List ℕ) (low : kind ≤ reset) (f : Fit (limitOf kind) count p) where
   -- a frame, whatever follows it
   pub scan-back : scanOf (frameOf kind count p ++ rest)
       ≡ Frame kind count (length (kind ∷ countBytes count)) (length (frameOf kind count p))
@@ -50,7 +39,7 @@ module _ (kind count : ℕ) (p rest : List ℕ) (low : kind ≤ reset) (f : Fit 
       let body : List ℕ = take (sizeOf count) p ++ rest in
       let most : count ≤ mostBits = omega (arith, f .small, limit-le kind) in
       let read = count-back (head ++ body) 1 mostBits count body refl most in
-      let behind = ap (checkOf kind count) (drop-append-seam (countBytes count) body) ∙ fine-of kind count body (fit-front kind count p rest f) in
+      let behind = ap (checkOf (limitOf kind) count) (drop-append-seam (countBytes count) body) ∙ fine-of (limitOf kind) count body (fit-front (limitOf kind) count p rest f) in
       rw (append-assoc head (take (sizeOf count) p) rest, frame-length kind count p (f .long))
       (simp (eqb·suc-zero, le-ltb _ _ low, read, one-add) (ap (framed kind count (length head)) behind))
 
@@ -123,7 +112,7 @@ module _ (s : List ℕ) (kind count start end : ℕ) (b : Octets s) (frame : sca
   pub written-again : (len at : ℕ) → at + end ≤ len → writtenOf len at kind count (payloadOf s) ≡ Done (at + end)
   unfolding writtenOf placed
   written-again len at room =
-      let f = rw append-nil at (fit-front kind count (drop start s) [] (read .fit)) in
-      let fine = fine-of kind count (payloadOf s) (rw own f) in
+      let f = rw append-nil at (fit-front (limitOf kind) count (drop start s) [] (read .fit)) in
+      let fine = fine-of (limitOf kind) count (payloadOf s) (rw own f) in
       let size = ap length bytes-again ∙ length-take-le end s (frame-within s kind count start end read .1) in
       simp (le-ltb _ _ (read .low), fine, size, le-ltb _ _ room)

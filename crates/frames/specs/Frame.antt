@@ -1,26 +1,21 @@
 -- Host frames (document 01, "Host frames"). Assumes nothing.
-use Prim.Native.Nat.{ℕ, _+_, _-_, _/_}
+use Prim.Native.Nat.{ℕ, _+_, _-_}
 use mathlib.Core.Bool.{cond}
 use mathlib.Core.List.{List, [], _∷_, _++_}
 use lib.Dec.{eqb, ltb}
 use lib.ListN.{length, getD, take, drop}
 use lib.Seq.{sets}
-use Rattle.bits.specs.Bits.{numOf}
-use Rattle.bits.specs.Bytes.{bitsOfBytes}
-use Rattle.frames.specs.Count.{countBytes, countAt}
-use Rattle.frames.specs.declared.Checked.{Checked}
-use Rattle.frames.specs.declared.Refusal.the-variants.{Short, Count, Unused, Kind, Room}
+use Rattle.counts.specs.Count.{countBytes, countAt}
+use Rattle.counts.specs.Payload.{sizeOf, checkOf}
+use Rattle.counts.specs.declared.Checked.{Checked}
+use Rattle.counts.specs.declared.Counted.{Counted}
+use Rattle.counts.specs.declared.Refusal.the-variants.{Short, Kind, Room}
 use Rattle.frames.specs.declared.Scanned.{Scanned}
 use Rattle.frames.specs.declared.Written.{Written}
-use Rattle.frames.specs.declared.count.Counted.{Counted}
 
 -- kinds: 0 auth, 1 comm, 2 secure, 3 key update, 4 comm response wanted, 5 secure response wanted, 6 reset
 abbrev pub reset : ℕ
 reset = 6
-
--- the bytes that hold so many bits
-abbrev pub sizeOf : ℕ → ℕ
-sizeOf count = (count + 7) / 8
 
 -- kind byte, bit count, bytes
 unfoldable pub frameOf : ℕ → ℕ → List ℕ → List ℕ
@@ -30,21 +25,9 @@ frameOf kind count payload = (kind ∷ countBytes count) ++ take (sizeOf count) 
 abbrev pub mostBits : ℕ
 mostBits = 2120
 
--- and 0 for kind 6
+-- 21 over 2,120, or not 0 for kind 6
 unfoldable pub limitOf : ℕ → ℕ
 limitOf kind = cond (eqb kind reset) 0 mostBits
-
--- the unused bits, behind the count in a payload's bytes, as a number
-unfoldable pub unusedOf : ℕ → List ℕ → ℕ
-unusedOf count payload = numOf (drop count (bitsOfBytes (take (sizeOf count) payload)))
-
--- what reading and writing refuse alike: 21 count over 2,120, or not 0 for kind 6; 20 the slice ends too soon; 22 unused bits not
--- zero
-unfoldable pub checkOf : ℕ → ℕ → List ℕ → Checked
-checkOf kind count payload =
-    cond (ltb (limitOf kind) count) (Checked.Refused Count)
-    (cond (ltb (length payload) (sizeOf count)) (Checked.Refused Short)
-    (cond (eqb (unusedOf count payload) 0) Checked.Fine (Checked.Refused Unused)))
 
 -- ---- reading
 
@@ -56,7 +39,7 @@ framed kind count start Checked.Fine = Scanned.Frame kind count start (start + s
 -- behind the count the payload begins
 unfoldable pub afterCount : List ℕ → ℕ → Counted → Scanned
 afterCount s kind (Counted.Refused why) = Scanned.Refused why
-afterCount s kind (Counted.Is count next) = framed kind count next (checkOf kind count (drop next s))
+afterCount s kind (Counted.Is count next) = framed kind count next (checkOf (limitOf kind) count (drop next s))
 
 -- an empty slice is 20; 23 kind above 6; then the count and what follows it
 unfoldable pub scanOf : List ℕ → Scanned
@@ -85,7 +68,7 @@ placed len next Checked.Fine = cond (ltb len next) (Written.Refused Room) (Writt
 unfoldable pub writtenOf : ℕ → ℕ → ℕ → ℕ → List ℕ → Written
 writtenOf len at kind count payload =
     cond (ltb reset kind) (Written.Refused Kind)
-    (placed len (at + length (frameOf kind count payload)) (checkOf kind count payload))
+    (placed len (at + length (frameOf kind count payload)) (checkOf (limitOf kind) count payload))
 
 -- a refused write changes nothing, a done one only the frame's own bytes
 unfoldable pub changed : List ℕ → ℕ → List ℕ → Written → List ℕ

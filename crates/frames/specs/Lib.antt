@@ -1,5 +1,4 @@
--- What the contracts of `frames` cite; and `Vectors`, which none cites: document 01's own counts, proved of the definitions cited.
-pub mod Refusal
-pub mod Count
+-- What the contracts of `frames` cite; and `Vectors`, which none cites: document 01's own refusals of counts, proved of the
+-- definitions cited.
 pub mod Frame
 pub mod Vectors

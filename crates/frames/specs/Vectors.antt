@@ -1,19 +1,15 @@
--- The counts of document 01, "How firm each promise stands" (d), with the refusals beside them in "Host frames". Assumes nothing.
+-- The counts that document 01 has refused ("Host frames"). Those beside them, 80, 127, 128 and 2,120, are in table (d):
+-- `determined/specs/Table.antt`. Assumes nothing.
 use mathlib.Core.List.{[], _∷_}
 use mathlib.Core.Path.{_≡_, refl}
-use Rattle.frames.specs.Count.{groupsOf, countBytes, upTo, joined, countFrom, countAt}
-use Rattle.frames.specs.Frame.{limitOf, checkOf, framed, afterCount, scanOf, placed, writtenOf}
-use Rattle.frames.specs.declared.Refusal.the-variants.{Short, Count}
+use Rattle.counts.specs.Count.{groupsOf, countBytes, upTo, joined, countFrom, countAt}
+use Rattle.counts.specs.Payload.{checkOf}
+use Rattle.counts.specs.declared.Refusal.the-variants.{Short, Count}
+use Rattle.frames.specs.Frame.{limitOf, framed, afterCount, scanOf, placed, writtenOf}
 use Rattle.frames.specs.declared.Scanned.{Scanned}
 use Rattle.frames.specs.declared.Written.{Written}
 
--- "Counts: 80 is 50; 127 is 7F; 128 is 80 01; 2,120 is C8 10; 2,121 and 80 00 are 21"
 pub record Counts : Type 0 where
-  -- 80 is 50; 127 is 7F; 128 is 80 01; 2,120 is C8 10
-  pub n80 : countBytes 80 ≡ 0x50 ∷ []
-  pub n127 : countBytes 127 ≡ 0x7F ∷ []
-  pub n128 : countBytes 128 ≡ 0x80 ∷ 0x01 ∷ []
-  pub n2120 : countBytes 2120 ≡ 0xC8 ∷ 0x10 ∷ []
   -- 2,121 and 80 00 are 21
   pub n2121 : countBytes 2121 ≡ 0xC9 ∷ 0x10 ∷ []
   pub read2121 : scanOf (0x00 ∷ 0xC9 ∷ 0x10 ∷ []) ≡ Scanned.Refused Count
@@ -29,10 +25,6 @@ pub counts : Counts
 unfolding groupsOf countBytes upTo joined countFrom countAt limitOf checkOf framed afterCount scanOf placed writtenOf
 counts =
     record {
-      n80 = refl;
-      n127 = refl;
-      n128 = refl;
-      n2120 = refl;
       n2121 = refl;
       read2121 = refl;
       write2121 = refl;

@@ -1,36 +1,23 @@
 // Host frames: a kind byte, a bit count, and the payload's bytes (document 01, "Host frames"). No public function has a
 // `requires`: every slice and every place gets an answer.
-mod count;
-
-use count::Counted;
+use counts::Checked;
+use counts::Counted;
+pub use counts::Refusal;
 ghost use mathlib.Core.Path.{_≡_};
 ghost use Prim.Native.Nat.{_+_, _≤_};
 ghost use mathlib.Core.List.{[], _∷_};
 ghost use lib.ListN.{length, take, drop};
 ghost use lib.Seq.{sets};
-ghost use Rattle.frames.specs.Refusal.{numberOf};
-ghost use Rattle.frames.specs.Count.{countBytes};
-ghost use Rattle.frames.specs.Frame.{limitOf, sizeOf, unusedOf, checkOf, framed, scanOf, payloadOf, frameOf, placed, writtenOf, outAfter};
+ghost use Rattle.counts.specs.Count.{countBytes};
+ghost use Rattle.counts.specs.Payload.{sizeOf, checkOf};
+ghost use Rattle.counts.specs.declared.Checked.{Checked};
+ghost use Rattle.frames.specs.Frame.{limitOf, framed, scanOf, payloadOf, frameOf, placed, writtenOf, outAfter};
 
 // The last kind: a reset, which has no bits.
 const RESET: u8 = 6;
 
 // The longest payload: 2,048 data bits, eight zero bits and a MAC of 64.
 const MOST_BITS: usize = 2120;
-
-// Why a frame is not read or not written.
-pub enum Refusal {
-    // The slice ends too soon; at a write, the payload is shorter than its count.
-    Short,
-    // The count is not shortest, over its limit, or not 0 for a reset.
-    Count,
-    // The unused bits are not zero.
-    Unused,
-    // The kind is above 6.
-    Kind,
-    // A write has no room from its place.
-    Room,
-}
 
 // What stands at the front of a slice.
 pub enum Scanned {
@@ -51,27 +38,6 @@ pub enum Written {
     Done(usize),
 }
 
-// What the rules that reading and writing share find.
-enum Checked {
-    Refused(Refusal),
-    Fine,
-}
-
-impl Refusal {
-    // The number that document 01 gives it.
-    pub fn number(self) -> u8
-        ensures { λ r. ⌜ r ≡ numberOf self ⌝ }
-    {
-        match self {
-            Refusal::Short => 20,
-            Refusal::Count => 21,
-            Refusal::Unused => 22,
-            Refusal::Kind => 23,
-            Refusal::Room => 24,
-        }
-    }
-}
-
 // The frame that `s` begins with.
 pub fn scan(s: &[u8]) -> Scanned
     ensures { λ r. ⌜ r ≡ scanOf (now (s .entry)) ⌝ }
@@ -83,7 +49,7 @@ pub fn scan(s: &[u8]) -> Scanned
     if RESET < kind {
         return Scanned::Refused(Refusal::Kind);
     }
-    match count::read_count(s, 1, MOST_BITS) {
+    match counts::read(s, 1, MOST_BITS) {
         Counted::Refused(why) => Scanned::Refused(why),
         Counted::Is { count, next } => frame_at(s, kind, count, next),
     }
@@ -122,33 +88,17 @@ pub fn write(out: &mut [u8], at: usize, kind: u8, count: usize, payload: &[u8]) 
 // The frame whose payload of `count` bits begins at `start`.
 fn frame_at(s: &[u8], kind: u8, count: usize, start: usize) -> Scanned
     requires { ⌜ start ≤ length (now s) ⌝ }
-    ensures { λ r. ⌜ r ≡ framed kind count start (checkOf kind count (drop start (now (s .entry)))) ⌝ }
+    ensures { λ r. ⌜ r ≡ framed kind count start (checkOf (limitOf kind) count (drop start (now (s .entry)))) ⌝ }
 {
-    match check(kind, count, &s[start..]) {
+    match counts::check(limit(kind), count, &s[start..]) {
         Checked::Refused(why) => Scanned::Refused(why),
         Checked::Fine => Scanned::Frame {
             kind,
             count,
             start,
-            end: start + size(count),
+            end: start + counts::size(count),
         },
     }
-}
-
-// The rules on a count and its payload that reading and writing share, in document 01's order.
-fn check(kind: u8, count: usize, payload: &[u8]) -> Checked
-    ensures { λ r. ⌜ r ≡ checkOf kind count (now (payload .entry)) ⌝ }
-{
-    if limit(kind) < count {
-        return Checked::Refused(Refusal::Count);
-    }
-    if payload.len() < size(count) {
-        return Checked::Refused(Refusal::Short);
-    }
-    if unused(payload, count) != 0 {
-        return Checked::Refused(Refusal::Unused);
-    }
-    Checked::Fine
 }
 
 // The largest count of a kind.
@@ -158,21 +108,6 @@ fn limit(kind: u8) -> usize
     if kind == RESET { 0 } else { MOST_BITS }
 }
 
-// How many bytes hold `count` bits. The sum is taken of the rest alone, so that it cannot wrap.
-fn size(count: usize) -> usize
-    ensures { λ r. ⌜ r ≡ sizeOf count ⌝ }
-{
-    count / 8 + (count % 8 + 7) / 8
-}
-
-// The number in the unused bits of a payload, the lowest of its last byte. Where there are none, it is a remainder by 1.
-fn unused(payload: &[u8], count: usize) -> u8
-    ensures { λ r. ⌜ r ≡ unusedOf count (now (payload .entry)) ⌝ }
-{
-    let free = (8 - count % 8) % 8;
-    bits::byte_at(payload, count / 8) % (1 << free)
-}
-
 // Whether a frame may be written, and the place behind it. Nothing is written before this is known.
 fn verdict(len: usize, at: usize, kind: u8, count: usize, payload: &[u8]) -> Written
     ensures { λ r. ⌜ r ≡ writtenOf len at kind count (now (payload .entry)) ⌝ }
@@ -180,9 +115,9 @@ fn verdict(len: usize, at: usize, kind: u8, count: usize, payload: &[u8]) -> Wri
     if RESET < kind {
         return Written::Refused(Refusal::Kind);
     }
-    match check(kind, count, payload) {
+    match counts::check(limit(kind), count, payload) {
         Checked::Refused(why) => Written::Refused(why),
-        Checked::Fine => place(len, at, 1 + count::count_size(count) + size(count)),
+        Checked::Fine => place(len, at, 1 + counts::groups(count) + counts::size(count)),
     }
 }
 
@@ -206,9 +141,9 @@ fn put_frame(out: &mut [u8], at: usize, kind: u8, count: usize, payload: &[u8])
 {
     put_kind(&mut out[at..], kind);
     let c = at + 1;
-    count::put_count(&mut out[c..], count);
-    let p = c + count::count_size(count);
-    put_payload(&mut out[p..], payload, size(count));
+    counts::put(&mut out[c..], count);
+    let p = c + counts::groups(count);
+    put_payload(&mut out[p..], payload, counts::size(count));
 }
 
 fn put_kind(out: &mut [u8], kind: u8)

@@ -4,3 +4,4 @@ pub mod Table
 pub mod Loading
 pub mod Runs
 pub mod Messages
+pub mod Widths

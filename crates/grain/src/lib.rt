@@ -5,11 +5,10 @@ mod taps;
 
 ghost use mathlib.Core.Path.{_≡_};
 ghost use mathlib.Core.Bool.{cond, false};
-ghost use mathlib.Core.List.{_++_};
 ghost use Prim.Native.Nat.{ℕ, _<_, _≤_, _^_, _%_};
-ghost use lib.ListN.{getD, length, take, drop};
+ghost use lib.ListN.{getD, length, take};
 ghost use Rattle.bits.specs.Bits.{bitsOf, numOf};
-ghost use Rattle.bits.specs.Bytes.{bitsOfBytes, bytesOf, wordBits};
+ghost use Rattle.bits.specs.Bytes.{bitsOfBytes, withFront, wordBits};
 ghost use Rattle.grain.specs.Generator.{push, value, clock, out, bitAt, nextB, nextS};
 ghost use Rattle.grain.specs.Start.{loaded, started, provers};
 ghost use Rattle.grain.specs.Mac.{padding, taken, filled, absorbed, authenticated, encrypted, decrypted};
@@ -235,7 +234,7 @@ impl Session {
     // The first `count` bits of `bytes` are encrypted where they stand, and the MAC goes over the encrypted bits.
     pub fn encrypt(self, width: Width, bytes: &mut [u8], count: usize) -> Session
         ensures { λ r. ⌜ (r ≡ sessionOf (authenticated (encrypted (take count (bitsOfBytes (now (bytes .entry)))) (macOf (widthOf width) self)) (macOf (widthOf width) self)))
-            × (now (bytes .exit) ≡ bytesOf (length (now (bytes .entry))) (encrypted (take count (bitsOfBytes (now (bytes .entry)))) (macOf (widthOf width) self) ++ drop count (bitsOfBytes (now (bytes .entry))))) ⌝ }
+            × (now (bytes .exit) ≡ withFront count (encrypted (take count (bitsOfBytes (now (bytes .entry)))) (macOf (widthOf width) self)) (now (bytes .entry))) ⌝ }
     {
         self.message(width, bytes, count, false)
     }
@@ -243,14 +242,14 @@ impl Session {
     // The first `count` bits of `bytes` are decrypted where they stand, and the MAC goes over the bits as they came.
     pub fn decrypt(self, width: Width, bytes: &mut [u8], count: usize) -> Session
         ensures { λ r. ⌜ (r ≡ sessionOf (authenticated (take count (bitsOfBytes (now (bytes .entry)))) (macOf (widthOf width) self)))
-            × (now (bytes .exit) ≡ bytesOf (length (now (bytes .entry))) (decrypted (take count (bitsOfBytes (now (bytes .entry)))) (macOf (widthOf width) self) ++ drop count (bitsOfBytes (now (bytes .entry))))) ⌝ }
+            × (now (bytes .exit) ≡ withFront count (decrypted (take count (bitsOfBytes (now (bytes .entry)))) (macOf (widthOf width) self)) (now (bytes .entry))) ⌝ }
     {
         self.message(width, bytes, count, true)
     }
 
     fn message(self, width: Width, bytes: &mut [u8], count: usize, decrypting: bool) -> Session
         ensures { λ r. ⌜ (r ≡ sessionOf (authenticated (cond decrypting (take count (bitsOfBytes (now (bytes .entry)))) (encrypted (take count (bitsOfBytes (now (bytes .entry)))) (macOf (widthOf width) self))) (macOf (widthOf width) self)))
-            × (now (bytes .exit) ≡ bytesOf (length (now (bytes .entry))) (cond decrypting (decrypted (take count (bitsOfBytes (now (bytes .entry)))) (macOf (widthOf width) self)) (encrypted (take count (bitsOfBytes (now (bytes .entry)))) (macOf (widthOf width) self)) ++ drop count (bitsOfBytes (now (bytes .entry))))) ⌝ }
+            × (now (bytes .exit) ≡ withFront count (cond decrypting (decrypted (take count (bitsOfBytes (now (bytes .entry)))) (macOf (widthOf width) self)) (encrypted (take count (bitsOfBytes (now (bytes .entry)))) (macOf (widthOf width) self))) (now (bytes .entry))) ⌝ }
     {
         let n = bits::bits_in(bytes, count);
         let x = self.cipher(bytes, n, decrypting);
@@ -288,7 +287,7 @@ impl Session {
         requires { ⌜ count ≤ length (bitsOfBytes (now bytes)) ⌝ }
         ensures { λ r. ⌜ ((w : ℕ) → 0 < w → w ≤ 64 →
             (macOf w r ≡ absorbed (cond decrypting (take count (bitsOfBytes (now (bytes .entry)))) (encrypted (take count (bitsOfBytes (now (bytes .entry)))) (macOf w self))) (macOf w self))
-            × (now (bytes .exit) ≡ bytesOf (length (now (bytes .entry))) (cond decrypting (decrypted (take count (bitsOfBytes (now (bytes .entry)))) (macOf w self)) (encrypted (take count (bitsOfBytes (now (bytes .entry)))) (macOf w self)) ++ drop count (bitsOfBytes (now (bytes .entry)))))) ⌝ }
+            × (now (bytes .exit) ≡ withFront count (cond decrypting (decrypted (take count (bitsOfBytes (now (bytes .entry)))) (macOf w self)) (encrypted (take count (bitsOfBytes (now (bytes .entry)))) (macOf w self))) (now (bytes .entry)))) ⌝ }
     {
         let mut x = self;
         for i in 0..count {

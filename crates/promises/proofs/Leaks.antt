@@ -12,20 +12,28 @@ use Rattle.bits.specs.Bytes.{bitsOfBytes, bytesOf, padded, fieldOf}
 use Rattle.bits.specs.Area.{shown}
 use Rattle.grain.specs.declared.Engine.{Engine}
 use Rattle.book.specs.Book as Book
-use Rattle.suite.specs.declared.Name.the-variants.{Ia1, Ia2}
-use Rattle.suite.specs.declared.Plan.the-variants.{Prove}
-use Rattle.suite.specs.declared.Tag.{Tag}
-use Rattle.suite.specs.Answers.{verdictOf, closingOf}
-use Rattle.suite.specs.Payloads.{optionsIn, readerKeystreamIn}
-use Rattle.suite.specs.Messages.{begunEngine, filledSession, nextKeystream, chosenWidth}
-use Rattle.suite.specs.TagRules.{commandPlan, soundOf, faceOf, shownOf}
-use Rattle.suite.specs.TagWork.{resetTag, begunTag, challenged, failed, keyIn, commandOf, carryOf, startOf, startedBy, proveOf, provedBy}
-use Rattle.promises.specs.Machines.{Given, Command}
-use Rattle.promises.specs.Ours.{tagGiven, tagCommand}
+use Rattle.payloads.specs.Payloads.{optionsIn, readerKeystreamIn}
+use Rattle.faces.specs.declared.Face.{Face}
+use Rattle.faces.specs.TagFaces.{faceFits}
+use Rattle.rules.specs.declared.Verdict.the-variants.{Go}
+use Rattle.rules.specs.Answers.{verdictOf, closingOf, ifSound}
+use Rattle.rules.specs.Calls.{Command}
+use Rattle.rules.specs.Results.{said, decided}
+use Rattle.rules.specs.TagRules.{keyUnder, shownOf, commandVerdict, commandWork}
+use Rattle.rules.proofs.Verdicts.{soundly}
+use Rattle.states.specs.declared.tag.TagState.{TagState}
+use Rattle.states.specs.Sessions.{keyIn, begunEngine, filledSession, nextKeystream, chosenWidth, sessionFits}
+use Rattle.states.specs.TagStates.{faceOf, secretsOf, tagOf, soundOf, begunFace, resetTag, begunTag}
+use Rattle.states.proofs.TagStates.{face-of, face-begun, secrets-begun}
+use Rattle.machines.specs.TagWork.{challenged, failed, commandOf, carriedOf, workedOf, startOf, startedBy, proveOf, provedBy}
+use Rattle.machines.proofs.TagSound.{begun-sound}
+use Rattle.promises.specs.Machines.{Given}
+use Rattle.promises.specs.Ours.{given}
+use Rattle.promises.specs.Silence as Silence
+use Rattle.promises.specs.Silence.{Standing, together, Claimed, Silent, WholeAlike}
 use Rattle.promises.specs.Demand3 as Demand3
-use Rattle.promises.specs.Demand3.{Standing, together, Claimed, Silent, WholeAlike, publicBits, eightBits, AlikeCommands, Demand3}
-use Rattle.promises.specs.Wrong.{onMismatch, withInput, leavesInput, agreed, expected, withPlace, keepsPlace}
-use Rattle.promises.proofs.Public.{inputOf}
+use Rattle.promises.specs.Demand3.{publicBits, eightBits, AlikeCommands, resets, commands, tagRuns, Demand3}
+use Rattle.promises.specs.Wrong.{onMismatch, withInput, leavesInput, agreed, expected, placed, withPlace, keepsPlace}
 use Rattle.promises.proofs.Refuted.{book, buffer}
 
 -- ---- IA up to the comparison: step 0, and step 1 with a guess of the keystream whose first byte is x and whose others are 0
@@ -49,28 +57,33 @@ engine = begunEngine (keyIn (Book.keyOf 5 book)) 1 0 0
 abbrev word : ℕ
 word = nextKeystream (filledSession (chosenWidth 0) engine .engine) .word
 
-abbrev tag : Tag
-tag = begunTag Ia1 5 engine
+abbrev tag : TagState
+tag = begunTag false 5 engine
 
-opens : tagCommand resetTag opening buffer ≡ challenged Ia1 5 31 0 engine
-unfolding commandOf carryOf commandPlan startOf startedBy soundOf shownOf verdictOf closingOf Book.soundOf Book.knownOf Book.idsOf
-    Book.keyIds Book.placeIn Book.rising bitsOfBytes bitsOf digit numOf padded fieldOf
+opens : commandOf resetTag opening 265 ≡ said (challenged false 5 31 0 engine)
+unfolding commandOf ifSound carriedOf decided commandVerdict commandWork workedOf startOf startedBy shownOf keyUnder verdictOf closingOf
+    soundOf faceFits sessionFits faceOf secretsOf tagOf resetTag Book.soundOf Book.knownOf Book.idsOf Book.keyIds Book.placeIn Book.rising
+    bitsOfBytes bitsOf digit numOf padded fieldOf
 opens = refl
 
 abbrev Wrong : ℕ → Type 0
 Wrong x = eqb word (readerKeystreamIn (bitsOfBytes (guess x .payload))) ≡ false
 
-proving : (x : ℕ) → commandPlan (soundOf tag) (faceOf tag) (shownOf 0 (inputOf (guess x) buffer)) ≡ Prove
-unfolding commandPlan soundOf shownOf verdictOf closingOf Book.soundOf Book.idsOf Book.keyIds Book.rising bitsOfBytes bitsOf digit numOf padded fieldOf
-proving x = refl
-
 no-options : (x : ℕ) → optionsIn (bitsOfBytes (guess x .payload)) ≡ 0
 unfolding bitsOfBytes bitsOf digit numOf padded fieldOf
 no-options x = refl
 
-mismatch : (x : ℕ) → Wrong x → tagCommand tag (guess x) buffer ≡ failed Ia2
-unfolding commandOf carryOf proveOf provedBy
-mismatch x e = rw (proving x, no-options x, e) refl
+goes : (x : ℕ) → commandVerdict (begunFace false 5) (shownOf 0 (guess x) 265) ≡ Go
+unfolding commandVerdict shownOf verdictOf closingOf Book.soundOf Book.idsOf Book.keyIds Book.rising bitsOfBytes bitsOf digit numOf padded fieldOf
+goes x = refl
+
+proves : (x : ℕ) → Wrong x → said (proveOf tag (shownOf 0 (guess x) 265) (guess x .payload)) ≡ said (failed false)
+unfolding proveOf provedBy shownOf
+proves x e = rw (face-begun, secrets-begun, no-options x, e)
+
+mismatch : (x : ℕ) → Wrong x → commandOf tag (guess x) 265 ≡ said (failed false)
+unfolding commandOf carriedOf decided commandWork workedOf shownOf
+mismatch x e = rw (soundly (soundOf tag) _ (begun-sound false 5 engine), face-begun, goes x) (proves x e)
 
 -- ---- two wrong guesses are alike in all public parts: so the whole answers are
 
@@ -102,19 +115,20 @@ alike-guesses x y = alike-but 0 (guess x) (guess y .payload) buffer refl (λ k. 
 pub same-alike : (w : ℕ) (c : Command) (b : List ℕ) → AlikeCommands w c c b b
 same-alike w c b = alike-but w c (c .payload) b refl (λ k. refl) (λ k p q. refl)
 
-module _ (change : Tag → Command → List ℕ → Given Tag → Given Tag) (d : Demand3 (onMismatch change)) (x y : ℕ) (u : Wrong x) (v : Wrong y) where
-  abbrev given : ℕ → Given Tag
-  given n = change tag (guess n) buffer (tagGiven (failed Ia2) buffer)
+module _ (change : TagState → Command → List ℕ → Given TagState → Given TagState) (d : Demand3 (onMismatch change)) (x y : ℕ) (u : Wrong x) (v : Wrong y) where
+  abbrev left : ℕ → Given TagState
+  left n = change tag (guess n) buffer (given (said (failed false)) buffer)
 
-  both : given x .answer ≡ 10 → given y .answer ≡ 10 → WholeAlike (onMismatch change) (given x) (given y)
+  both : left x .answer ≡ 10 → left y .answer ≡ 10 → WholeAlike (tagRuns (onMismatch change)) (left x) (left y)
   unfolding Silent
   both p q =
-      let h = d [] [] refl ((call opening, call opening) ∷ (call (guess x), call (guess y)) ∷ []) (same-alike 0 opening buffer) .1 in
-      let k = rw opens at h in
-      let m = k (alike-guesses x y) .0 in
+      let calls : List (Demand3.Call × Demand3.Call) = (call opening, call opening) ∷ (call (guess x), call (guess y)) ∷ [] in
+      let h = d resetTag resetTag (Demand3.reset []) (Demand3.reset []) refl (resets refl) calls (commands (same-alike _ opening buffer)) .1 in
+      let k = rw (opens, face-begun) at h in
+      let m = k (commands (alike-guesses x y)) .0 in
       let n = rw (mismatch x u, mismatch y v) at m in
-      let z : Demand3.after together (Demand3.fails (given x)) (Demand3.fails (given y)) ≡ Demand3.failed = rw (p, q) refl in
-      subst (λ (s : Standing). Claimed (onMismatch change) s (given x) (given y)) z n .1
+      let z : Silence.after together (Silence.fails (left x)) (Silence.fails (left y)) ≡ Silence.failed = rw (p, q) refl in
+      subst (λ (s : Standing). Claimed (tagRuns (onMismatch change)) s (left x) (left y)) z n .1
 
 -- ---- the keystream's first two bits, whatever they are, say what guesses are wrong
 
@@ -151,13 +165,16 @@ module _ (d : Demand3 keepsPlace) (p q : Bool) (e : digit 63 word ≡ p) (f : di
   place-is x = ap (λ (l : List Bool). agreed l (drop 16 (bitsOfBytes (guess x .payload)))) expects
     where
       expects : expected tag (bitsOfBytes (guess x .payload)) ≡ p ∷ q ∷ bitsOf 62 word
-      expects = unfold expected bitsOf in rw (no-options x, e, f) refl
+      expects = unfold expected bitsOf in rw (secrets-begun, no-options x, e, f) refl
+
+  key-placed : (n : ℕ) (t : TagState) → faceOf (placed n t) .keyid ≡ n
+  key-placed n t = ap (λ (f : Face). f .keyid) (face-of _ _)
 
   clash : (x y : ℕ) → digit 63 (readerKeystreamIn (bitsOfBytes (guess x .payload))) ≡ not p
       → digit 62 (readerKeystreamIn (bitsOfBytes (guess y .payload))) ≡ not q → place x ≡ 0 → place y ≡ 1 → ⊥
   clash x y u v zero one =
       let h = both withPlace d x y (wrong x 63 p e u) (wrong y 62 q f v) refl refl .state in
-      let k = sym zero ∙ sym (place-is x) ∙ ap (λ (t : Tag). t .keyid) h ∙ place-is y ∙ one in
+      let k = sym zero ∙ sym (place-is x) ∙ sym (key-placed _ _) ∙ ap (λ (t : TagState). faceOf t .keyid) h ∙ key-placed _ _ ∙ place-is y ∙ one in
       omega (arith, k)
 
 pub keeps-place : Demand3 keepsPlace → ⊥

@@ -10,31 +10,36 @@ use Rattle.bits.specs.Area.{shown}
 use Rattle.bits.specs.Bits.{bitsOf, digit, num, numOf, _⊕_}
 use Rattle.bits.specs.Bytes.{bitsOfBytes, bytesOf, padded, fieldOf}
 use Rattle.bits.proofs.Bytes.{bits-back}
+use Rattle.bits.proofs.Fields.{field-skip, field-whole}
 use Rattle.bits.proofs.Numbers.{length-bitsOf, numOf-lt}
 use Rattle.grain.specs.declared.Engine.{Engine}
+use Rattle.grain.specs.declared.Method.the-variants.{Ma}
 use Rattle.grain.specs.declared.Session.{Session}
 use Rattle.grain.specs.declared.Width.the-variants.{Mac32}
 use Rattle.grain.specs.Mac as Mac
 use Rattle.grain.specs.Stored as Stored
 use Rattle.grain.proofs.Runs.{length-keystream}
 use Rattle.book.specs.Book as Book
-use Rattle.suite.specs.declared.Answer.the-variants.{Mismatch}
-use Rattle.suite.specs.declared.Name.the-variants.{Ma1}
-use Rattle.suite.specs.declared.Plan.the-variants.{Prove, Receive}
-use Rattle.suite.specs.declared.Tag.{Tag}
-use Rattle.suite.specs.Answers.{verdictOf, closingOf}
-use Rattle.suite.specs.Payloads.{optionsIn, readerKeystreamIn}
-use Rattle.suite.specs.Messages.{begunEngine, filledSession, nextKeystream, afterMessage, dataOf, sameMac, zerosOf}
-use Rattle.suite.specs.TagRules.{commandPlan, soundOf, faceOf, shownOf}
-use Rattle.suite.specs.TagWork.{resetTag, begunTag, challenged, mutuallyProved, keyIn, closedBy, commandOf, carryOf, startOf, startedBy, proveOf, provedBy, receiveOf, receivedBy}
-use Rattle.suite.proofs.Sound.{filled-fits}
-use Rattle.promises.specs.Machines.{Command}
-use Rattle.promises.specs.Ours.{tagCommand}
+use Rattle.payloads.specs.Payloads.{optionsIn, readerKeystreamIn, zerosOf}
+use Rattle.faces.specs.TagFaces.{faceFits}
+use Rattle.rules.specs.declared.Answer.the-variants.{Mismatch}
+use Rattle.rules.specs.declared.Verdict.the-variants.{Go}
+use Rattle.rules.specs.Answers.{verdictOf, closingOf, ifSound}
+use Rattle.rules.specs.Calls.{Command}
+use Rattle.rules.specs.Results.{refusedBy, comparedBy, said, decided}
+use Rattle.rules.specs.TagRules.{keyUnder, shownOf, commandVerdict, commandWork}
+use Rattle.rules.proofs.Verdicts.{soundly}
+use Rattle.states.specs.declared.tag.TagState.{TagState}
+use Rattle.states.specs.Sessions.{keyIn, begunEngine, filledSession, nextKeystream, withEngine, afterMessage, dataOf, sameMac, sessionFits}
+use Rattle.states.specs.TagStates.{faceOf, secretsOf, tagOf, soundOf, begunFace, openBy, resetTag, closedTag, begunTag, openTag}
+use Rattle.states.proofs.Sessions.{filled-fits}
+use Rattle.states.proofs.TagStates.{face-begun, secrets-begun, face-open, secrets-open}
+use Rattle.machines.specs.TagWork.{challenged, mutuallyProved, commandOf, carriedOf, workedOf, startOf, startedBy, proveOf, provedBy, receiveOf}
+use Rattle.machines.proofs.TagSound.{begun-sound, open-sound}
+use Rattle.promises.specs.Silence.{Silent}
 use Rattle.promises.specs.Demand3 as Demand3
-use Rattle.promises.specs.Demand3.{Silent, AlikeCommands, Demand3}
+use Rattle.promises.specs.Demand3.{AlikeCommands, resets, commands, Demand3}
 use Rattle.promises.specs.Wrong.{leavesDecrypted}
-use Rattle.promises.proofs.Delivered.{field-skip, field-whole}
-use Rattle.promises.proofs.Public.{inputOf}
 use Rattle.promises.proofs.Refuted.{book, buffer}
 use Rattle.promises.proofs.Leaks.{called, call, alike-but, same-alike}
 
@@ -56,22 +61,27 @@ word = nextKeystream (filled .engine) .word
 abbrev proof : Command
 proof = called (146 ∷ 5 ∷ bytesOf 8 (bitsOf 64 word)) 80
 
-abbrev asked : Tag
-asked = begunTag Ma1 5 engine
+abbrev asked : TagState
+asked = begunTag true 5 engine
 
 abbrev later : Engine
 later = nextKeystream (filled .engine) .engine
 
-abbrev ready : Tag
-ready = mutuallyProved 5 2 later filled .tag
+-- the session of the open tag
+abbrev spoken : Session
+spoken = withEngine filled (nextKeystream later .engine)
 
-opens : tagCommand resetTag opening buffer ≡ challenged Ma1 5 31 0 engine
-unfolding commandOf carryOf commandPlan startOf startedBy soundOf shownOf verdictOf closingOf Book.soundOf Book.knownOf Book.idsOf
-    Book.keyIds Book.placeIn Book.rising bitsOfBytes bitsOf digit numOf padded fieldOf
+abbrev ready : TagState
+ready = openTag Ma 5 2 spoken
+
+opens : commandOf resetTag opening 265 ≡ said (challenged true 5 31 0 engine)
+unfolding commandOf ifSound carriedOf decided commandVerdict commandWork workedOf startOf startedBy shownOf keyUnder verdictOf closingOf
+    soundOf faceFits sessionFits faceOf secretsOf tagOf resetTag Book.soundOf Book.knownOf Book.idsOf Book.keyIds Book.placeIn Book.rising
+    bitsOfBytes bitsOf digit numOf padded fieldOf
 opens = refl
 
-proving : commandPlan (soundOf asked) (faceOf asked) (shownOf 0 (inputOf proof buffer)) ≡ Prove
-unfolding commandPlan soundOf shownOf verdictOf closingOf Book.soundOf Book.idsOf Book.keyIds Book.rising bitsOfBytes bytesOf bitsOf digit numOf padded fieldOf
+proving : commandVerdict (begunFace true 5) (shownOf 0 proof 265) ≡ Go
+unfolding commandVerdict shownOf verdictOf closingOf Book.soundOf Book.idsOf Book.keyIds Book.rising bitsOfBytes bytesOf bitsOf digit numOf padded fieldOf
 proving = refl
 
 secure-options : optionsIn (bitsOfBytes (proof .payload)) ≡ 2
@@ -88,9 +98,13 @@ word-asked =
     field-skip 8 8 64 (bitsOf 8 146) _ (length-bitsOf 8 146) ∙ field-skip 8 0 64 (bitsOf 8 5) _ (length-bitsOf 8 5)
     ∙ ap (fieldOf 0 64) (bits-back 8 (bitsOf 64 word) (length-bitsOf 64 word)) ∙ field-whole 64 word word-small
 
-proves : tagCommand asked proof buffer ≡ mutuallyProved 5 2 later filled
-unfolding commandOf carryOf proveOf provedBy
-proves = rw (proving, secure-options, word-asked, eq-eqb word word refl) refl
+compared : said (proveOf asked (shownOf 0 proof 265) (proof .payload)) ≡ said (mutuallyProved 5 2 later filled)
+unfolding proveOf provedBy shownOf
+compared = rw (face-begun, secrets-begun, secure-options, word-asked, eq-eqb word word refl)
+
+proves : commandOf asked proof 265 ≡ said (mutuallyProved 5 2 later filled)
+unfolding commandOf carriedOf decided commandWork workedOf shownOf
+proves = rw (soundly (soundOf asked) _ (begun-sound true 5 engine), face-begun, proving) compared
 
 -- ---- secure messages of one data bit a, eight zeros, and a MAC whose first bit is m and whose others are 0
 
@@ -127,18 +141,17 @@ mac-bit false true = refl
 mac-bit false false = refl
 
 ready-sound : soundOf ready ≡ true
-unfolding soundOf
-ready-sound = rw (filled-fits Mac32 engine) refl
+ready-sound = open-sound 5 2 spoken refl (filled-fits Mac32 engine) Ma
 
-receiving : (a m : Bool) → commandPlan (soundOf ready) (faceOf ready) (shownOf 32 (inputOf (secret a m) buffer)) ≡ Receive
-unfolding commandPlan shownOf verdictOf closingOf Book.soundOf Book.idsOf Book.keyIds Book.rising
-receiving a m = rw (ready-sound, zeros-are a m) refl
+receiving : (a m : Bool) → commandVerdict (openBy Ma 5 2) (shownOf 32 (secret a m) 265) ≡ Go
+unfolding commandVerdict shownOf verdictOf closingOf Book.soundOf Book.idsOf Book.keyIds Book.rising
+receiving a m = rw (zeros-are a m) refl
 
 -- the right MAC of a
 abbrev right : Bool → ℕ
-right a = afterMessage Mac32 (a ∷ []) (ready .session) .acc
+right a = afterMessage Mac32 (a ∷ []) spoken .acc
 
-wrong-mac : (a m : Bool) → digit 31 (right a) ≡ not m → sameMac Mac32 (bits a m) 41 (ready .session) ≡ false
+wrong-mac : (a m : Bool) → digit 31 (right a) ≡ not m → sameMac Mac32 (bits a m) 41 spoken ≡ false
 unfolding sameMac
 wrong-mac a m e = rw (data-bit a m) (ne-eqb _ _ (λ q. differ m (sym (sym e ∙ ap (digit 31) q ∙ mac-bit a m))))
   where
@@ -146,9 +159,9 @@ wrong-mac a m e = rw (data-bit a m) (ne-eqb _ _ (λ q. differ m (sym (sym e ∙ 
     differ true h = true≢false h
     differ false h = true≢false (sym h)
 
-mismatch : (a m : Bool) → digit 31 (right a) ≡ not m → tagCommand ready (secret a m) buffer ≡ closedBy ready Mismatch
-unfolding commandOf carryOf receiveOf receivedBy
-mismatch a m e = rw (receiving a m, wrong-mac a m e) refl
+mismatch : (a m : Bool) → digit 31 (right a) ≡ not m → commandOf ready (secret a m) 265 ≡ refusedBy (closedTag ready) Mismatch
+unfolding commandOf carriedOf decided commandWork workedOf shownOf receiveOf comparedBy
+mismatch a m e = rw (soundly (soundOf ready) _ ready-sound, face-open, receiving a m, secrets-open, wrong-mac a m e) refl
 
 -- ---- two such messages are alike in all public parts: so what is left of them is the same
 
@@ -159,22 +172,22 @@ alike-secrets m n =
     (λ k p q. eqb-true _ _ (zeros-are false m) ∙ sym (eqb-true _ _ (zeros-are true n)))
 
 abbrev left : Bool → List ℕ
-left a = shown (dataOf Mac32 true (a ∷ []) (ready .session)) buffer
+left a = shown (dataOf Mac32 true (a ∷ []) spoken) buffer
 
 both : Demand3 leavesDecrypted → (m n : Bool) → digit 31 (right false) ≡ not m → digit 31 (right true) ≡ not n → take 265 (left false) ≡ take 265 (left true)
 unfolding Silent
 both d m n u v =
     let calls : List (Demand3.Call × Demand3.Call) = (call opening, call opening) ∷ (call proof, call proof) ∷ (call (secret false m), call (secret true n)) ∷ [] in
-    let h = d [] [] refl calls (same-alike 0 opening buffer) .1 in
-    let k = (rw opens at h) (same-alike 0 proof buffer) .1 in
-    let p = (rw proves at k) (alike-secrets m n) .0 in
+    let h = d resetTag resetTag (Demand3.reset []) (Demand3.reset []) refl (resets refl) calls (commands (same-alike _ opening buffer)) .1 in
+    let k = (rw (opens, face-begun) at h) (commands (same-alike _ proof buffer)) .1 in
+    let p = (rw (proves, face-open, secrets-open) at k) (commands (alike-secrets m n)) .0 in
     let q = (rw (mismatch false m u, mismatch true n v) at p) .1 .area in
     rw (data-bit false m, data-bit true n) at q
 
 -- they differ in their first bit, whatever was added to it
 apart : take 265 (left false) ≡ take 265 (left true) → ⊥
 unfolding dataOf Mac.decrypted shown bytesOf padded numOf
-apart e = at (Mac.keyBit (Stored.macOf 32 (ready .session) .st)) (ap (λ (l : List ℕ). getD l 0 0) e)
+apart e = at (Mac.keyBit (Stored.macOf 32 spoken .st)) (ap (λ (l : List ℕ). getD l 0 0) e)
   where
     at : (k : Bool) → numOf (padded 8 ((false ⊕ k) ∷ [])) ≡ numOf (padded 8 ((true ⊕ k) ∷ [])) → ⊥
     at true h = omega (arith, h)

@@ -1,190 +1,185 @@
--- One call of two tags that show the same face: what it gives shows the same, or a comparison failed in both and it gives the very
+-- One call to two tags that show the same face: what it gives shows the same, or a comparison failed in both and it gives the very
 -- same, or the two comparisons came out apart. Assumes nothing.
 use mathlib.Core.Path.{_≡_, refl, sym, ap, ap₂, _∙_}
-use mathlib.Core.Bool.{Bool, true, false, not, cond, true≢false}
+use mathlib.Core.Bool.{Bool, true, false, cond, true≢false}
 use mathlib.Core.List.{List, []}
 use Prim.Native.Nat.{ℕ, _+_, _*_, _≤_}
 use lib.Dec.{eqb}
 use lib.ListN.{length}
 use borrow.Author.Tests.{ltb-false}
+use Rattle.bits.proofs.Bools.{both, neither}
+use Rattle.bits.proofs.Replies.{area-same}
 use Rattle.grain.specs.declared.Engine.{Engine}
 use Rattle.grain.specs.declared.Session.{Session}
 use Rattle.grain.specs.Stored.{widthOf}
-use Rattle.suite.specs.declared.Answer.{Answer}
-use Rattle.suite.specs.declared.Answer.the-variants.{Mismatch}
-use Rattle.suite.specs.declared.Checks.{Checks}
-use Rattle.suite.specs.declared.Tag.{Tag}
-use Rattle.suite.specs.declared.Verdict.{Verdict}
-use Rattle.suite.specs.declared.Verdict.the-variants.{Keep, Close, Go}
-use Rattle.suite.specs.declared.Plan.the-variants as Plans
-use Rattle.suite.specs.Answers.{numberOf, verdictOf, closingOf}
-use Rattle.suite.specs.Messages.{storedWidth, dataBits}
-use Rattle.suite.specs.TagRules as Rules
-use Rattle.suite.specs.TagRules.{Face, faceOf, rowOf, fresh, soundOf, shownOf, beyondOf, commandPlan, workOf, planFrom, Response, responseChecks, responseVerdict}
-use Rattle.suite.specs.TagWork.{Result, bareTag, closedTag, keptBy, closedBy, startedBy, startOf, provedBy, proveOf, receivedBy, receiveOf, sendOf, carryOf, commandOf, respondOf, responseOf}
-use Rattle.suite.proofs.Plans.{or-false, Passed, passed, of-cond, cond-same, by-verdict}
-use Rattle.suite.proofs.Layouts.{length-proof, length-mutual}
-use Rattle.suite.proofs.Replies.{sent-bits, received-bits}
-use Rattle.promises.proofs.Closed.{keptIn, error-kept}
-use Rattle.promises.specs.Machines.{Message}
-use Rattle.promises.specs.Demand3.{AlikeResponses}
-use Rattle.promises.proofs.Public.{Fields, Told, checked, plan-same, passed-fields}
+use Rattle.payloads.specs.Payloads.{status, layoutOf, dataBits, beyondOf}
+use Rattle.payloads.proofs.Layouts.{length-proof, length-mutual}
+use Rattle.faces.specs.declared.Face.{Face}
+use Rattle.faces.specs.TagFaces.{rowOf, fresh}
+use Rattle.rules.specs.declared.Answer.{Answer}
+use Rattle.rules.specs.declared.Answer.the-variants.{Mismatch}
+use Rattle.rules.specs.declared.Closing.{Closing}
+use Rattle.rules.specs.declared.Keeping.{Keeping}
+use Rattle.rules.specs.declared.Shown.{Shown}
+use Rattle.rules.specs.declared.Verdict.{Verdict}
+use Rattle.rules.specs.declared.Work.the-variants.{Start, Prove, Receive}
+use Rattle.rules.specs.Answers.{verdictOf}
+use Rattle.rules.specs.Calls.{Command, Message, messageShown}
+use Rattle.rules.specs.Results.{Result, Outcome, refusedBy, comparedBy, said, decided}
+use Rattle.rules.specs.TagRules.{shownOf, commandVerdict, commandWork, responseKeeping, responseClosing, responseVerdict}
+use Rattle.rules.proofs.Verdicts.{Kept, Passed, Plain, by-order, soundly}
+use Rattle.states.specs.declared.tag.TagState.{TagState}
+use Rattle.states.specs.Sessions.{storedWidth}
+use Rattle.states.specs.TagStates.{faceOf, soundOf, closedTag, failedTag}
+use Rattle.states.proofs.Sessions.{sent-bits, received-bits}
+use Rattle.states.proofs.TagStates.{face-begun, face-closed, face-failed, face-open, face-with, closed-same}
+use Rattle.machines.specs.TagWork.{startedBy, startOf, provedBy, proveOf, receiveOf, sendOf, workedOf, carriedOf, commandOf, responseOf}
+use Rattle.machines.proofs.TagSound.{face-sound}
+use Rattle.promises.specs.Silence.{Runs}
+use Rattle.promises.specs.Ours.{given, ourTag}
+use Rattle.promises.specs.Demand3.{AlikeCommands, AlikeResponses, tagRuns}
+use Rattle.promises.proofs.Public.{Fields, Told, told, keeping, closing, verdict-same, passed-fields}
+use Rattle.promises.proofs.Quiet as Quiet
+use Rattle.promises.proofs.Quiet.{Inside, alike, fail, apart, kept, worked}
 
--- "10: comparison failed"
-abbrev pub ten : Answer → Bool
-ten a = eqb (numberOf a) 10
+abbrev pub runs : Runs
+runs = tagRuns ourTag
 
--- ---- the order never says 10, and keeps a state that is closed
+-- what is known of a tag's state inside
+abbrev pub inside : Inside runs
+inside = record { Face = Face; face = faceOf; Sound = λ t. soundOf t ≡ true; Closed = λ t. faceOf t .error ≡ true }
 
-abbrev tenIn : Verdict → Bool
-tenIn (Keep a) = ten a
-tenIn (Close a) = ten a
-tenIn Go = false
+-- two calls, in buffers of one length
+module _ (b e : List ℕ) (room : length b ≡ length e) where
+  abbrev Worked : Result TagState → Result TagState → Type 0
+  Worked r q = Quiet.Worked runs inside (given r b) (given q e)
 
-not-ten : (c : Checks) → tenIn (verdictOf c) ≡ false
-unfolding verdictOf closingOf
-not-ten c = simp (of-cond tenIn, cond-same)
+  abbrev Agree : TagState → TagState → Result TagState → Result TagState → Type 0
+  Agree s t r q = Quiet.Agree runs inside s t (given r b) (given q e)
 
--- what a call does for each verdict: only an open state is closed
-by-order : (P : Verdict → Type 0) (c : Checks) → ((a : Answer) → ten a ≡ false → P (Keep a))
-    → ((a : Answer) → ten a ≡ false → c .error ≡ false → P (Close a)) → (Passed c → P Go) → P (verdictOf c)
-by-order P c keep close go = by-verdict P tenIn c (not-ten c) keep (λ a e n. close a n (unclosed (c .error) refl (ap keptIn e))) (λ e. go (passed c e))
-  where
-    unclosed : (b : Bool) → c .error ≡ b → keptIn (verdictOf c) ≡ false → c .error ≡ false
-    unclosed true e k = absurd (true≢false (sym (error-kept c e) ∙ k))
-    unclosed false e k = e
+  -- what is said is the same, whatever the states
+  says : (x y : TagState) (a : Answer) (l : List Bool)
+      → Quiet.Says runs inside (given (record { next = x; answer = a; reply = l }) b) (given (record { next = y; answer = a; reply = l }) e)
+  says x y a l = record { answer = refl; bits = refl; area = area-same l b e room }
 
--- ---- what two calls may give
+  -- ---- step 0, step 1, and a message that came
 
--- the results show the same
-pub record Shows (r q : Result) : Type 0 where
-  pub face : faceOf (r .tag) ≡ faceOf (q .tag)
-  pub answer : r .answer ≡ q .answer
-  pub bits : length (r .reply) ≡ length (q .reply)
+  started : (m k o f n : ℕ) (x y : Engine) → Worked (said (startedBy m k o f n x)) (said (startedBy m k o f n y))
+  unfolding startedBy layoutOf
+  started m k o f n x y =
+      both (λ (u v : Outcome TagState). Worked (said u) (said v)) (eqb m 0)
+      (alike refl (record { face = face-open _ _ _ _ ∙ sym (face-open _ _ _ _); answer = refl; bits = length-proof f n _ ∙ sym (length-proof f n _) }))
+      (alike refl (record { face = face-begun _ _ _ ∙ sym (face-begun _ _ _); answer = refl; bits = refl }))
 
--- from an open state: they show the same, a comparison failed in both, or the comparisons came out apart
-pub data Worked (r q : Result) : Type 0 where
-  alike : ten (r .answer) ≡ false → Shows r q → Worked r q
-  fail : ten (r .answer) ≡ true → r .tag .error ≡ true → r ≡ q → Worked r q
-  apart : ten (r .answer) ≡ not (ten (q .answer)) → Worked r q
+  failed : (m : Bool) (k o : ℕ) (x y : Engine) (u v : Session) → Worked (said (provedBy m false k o x u)) (said (provedBy m false k o y v))
+  unfolding provedBy layoutOf
+  failed m k o x y u v = fail refl (ap (λ (f : Face). f .error) (face-failed m)) refl (says (failedTag m) (failedTag m) Mismatch (status 1))
 
--- from any state: refused alike and kept, or else the state was open
-pub data Agree (s t : Tag) (r q : Result) : Type 0 where
-  kept : (a : Answer) → ten a ≡ false → r ≡ keptBy s a → q ≡ keptBy t a → Agree s t r q
-  worked : s .error ≡ false → Worked r q → Agree s t r q
+  proved : (m p q : Bool) (k o : ℕ) (x y : Engine) (u v : Session) → Worked (said (provedBy m p k o x u)) (said (provedBy m q k o y v))
+  unfolding provedBy layoutOf
+  proved true true true k o x y u v = alike refl (record { face = face-open _ _ _ _ ∙ sym (face-open _ _ _ _); answer = refl; bits = length-mutual _ ∙ sym (length-mutual _) })
+  proved false true true k o x y u v = alike refl (record { face = face-open _ _ _ _ ∙ sym (face-open _ _ _ _); answer = refl; bits = refl })
+  proved true true false k o x y u v = apart refl
+  proved false true false k o x y u v = apart refl
+  proved true false true k o x y u v = apart refl
+  proved false false true k o x y u v = apart refl
+  proved true false false k o x y u v = failed true k o x y u v
+  proved false false false k o x y u v = failed false k o x y u v
 
--- ---- step 0, step 1, and a message that came
+  module _ (s t : TagState) (f : faceOf s ≡ faceOf t) where
+    received : (p q : Bool) (x y : TagState) (l m : List Bool) → faceOf x ≡ faceOf y → length l ≡ length m
+        → Worked (comparedBy p x l (closedTag s)) (comparedBy q y m (closedTag t))
+    unfolding comparedBy
+    received true true x y l m g n = alike refl (record { face = g; answer = refl; bits = n })
+    received true false x y l m g n = apart refl
+    received false true x y l m g n = apart refl
+    received false false x y l m g n = fail refl (ap (λ (z : Face). z .error) (face-closed s)) (closed-same s t f) (says (closedTag s) (closedTag t) Mismatch [])
 
--- what holds of two choices holds of the chosen
-either : {A : Type 0} (P : A → A → Type 0) (b : Bool) {x y u v : A} → P x u → P y v → P (cond b x y) (cond b u v)
-either P true p q = p
-either P false p q = q
+    -- ---- what is refused
 
-started : (m k o f n : ℕ) (e g : Engine) → Worked (startedBy m k o f n e) (startedBy m k o f n g)
-unfolding startedBy
-started m k o f n e g =
-    either Worked (eqb m 0) (alike refl (record { face = refl; answer = refl; bits = length-proof f n _ ∙ sym (length-proof f n _) }))
-    (either Worked (eqb m 1) (alike refl (record { face = refl; answer = refl; bits = refl })) (alike refl (record { face = refl; answer = refl; bits = refl })))
+    refused : (a : Answer) → Plain a → Agree s t (refusedBy s a) (refusedBy t a)
+    refused a n = kept (n .ten) refl refl (says s t a [])
 
-proved : (mutually a b : Bool) (k o : ℕ) (e g : Engine) (x y : Session) → Worked (provedBy mutually a k o e x) (provedBy mutually b k o g y)
-unfolding provedBy
-proved true true true k o e g x y = alike refl (record { face = refl; answer = refl; bits = length-mutual _ ∙ sym (length-mutual _) })
-proved true true false k o e g x y = apart refl
-proved true false true k o e g x y = apart refl
-proved true false false k o e g x y = fail refl refl refl
-proved false true true k o e g x y = alike refl (record { face = refl; answer = refl; bits = refl })
-proved false true false k o e g x y = apart refl
-proved false false true k o e g x y = apart refl
-proved false false false k o e g x y = fail refl refl refl
+    shut : (a : Answer) → Plain a → Worked (refusedBy (closedTag s) a) (refusedBy (closedTag t) a)
+    shut a n = alike (n .ten) (record { face = ap faceOf (closed-same s t f); answer = refl; bits = refl })
 
-closed-same : (s t : Tag) → faceOf s ≡ faceOf t → closedTag s ≡ closedTag t
-closed-same s t e = ap (λ (f : Face). bareTag (f .name) (f .init) (f .ta) (f .ia) true) e
+    -- one verdict on both: only an open state is closed, or worked on
+    decided-agree : (k : Keeping) (c : Closing) (r q : Result TagState) → k .error ≡ faceOf s .error → (Passed k c → Worked r q)
+        → Agree s t (decided (verdictOf k c) s (closedTag s) r) (decided (verdictOf k c) t (closedTag t) q)
+    unfolding decided
+    decided-agree k c r q error work =
+        let opened : Kept k → faceOf s .error ≡ true → ⊥ = λ p i. true≢false (sym i ∙ sym error ∙ p .error) in
+        by-order (λ (v : Verdict). Agree s t (decided v s (closedTag s) r) (decided v t (closedTag t) q)) k c refused
+        (λ a n h p. worked (opened p) (shut a n)) (λ p. worked (opened (p .kept)) (work p))
 
-received : (a b : Bool) (s t : Tag) (x y : Session) (l m : List Bool) → faceOf s ≡ faceOf t → length l ≡ length m → Worked (receivedBy a s x l) (receivedBy b t y m)
-unfolding receivedBy
-received true true s t x y l m f e = alike refl (record { face = f; answer = refl; bits = e })
-received true false s t x y l m f e = apart refl
-received false true s t x y l m f e = apart refl
-received false false s t x y l m f e = fail refl refl (ap (λ (u : Tag). record { tag = u; answer = Mismatch; reply = [] }) (closed-same s t f))
+    -- ---- a command
 
--- ---- the calls
+    module _ (sound : soundOf s ≡ true) (p q : Shown) (a : Told (faceOf s .width) p q) (key lock xs ys : List ℕ)
+        (within : p .beyond ≡ beyondOf xs (p .count)) (within′ : q .beyond ≡ beyondOf ys (q .count)) where
+      start-worked : Fields p q → Worked (said (startOf p key xs)) (said (startOf q lock ys))
+      unfolding startOf
+      start-worked g = rw (g .fields, a .features, a .number) (started _ _ _ _ _ _ _)
 
--- what a sound state does is by its face
-planned : (t : Tag) (i : Rules.Command) (f : Face) → soundOf t ≡ true → faceOf t ≡ f → commandOf t i ≡ carryOf (commandPlan true f (shownOf (f .width) i)) t i
-unfolding commandOf
-planned t i f z e = rw (z, ← e)
+      prove-worked : Fields p q → Worked (said (proveOf s p xs)) (said (proveOf t q ys))
+      unfolding proveOf
+      prove-worked g = rw (g .fields, f) (proved _ _ _ _ _ _ _ _ _)
 
-responded : (t : Tag) (i : Response) (f : Face) → soundOf t ≡ true → faceOf t ≡ f
-    → responseOf t i ≡ respondOf (responseVerdict true f (i .kind) (beyondOf (i .payload) (i .count)) (i .count) (i .room)) t i
-unfolding responseOf
-responded t i f z e = rw (z, ← e)
+      receive-worked : p .beyond ≡ false → Worked (receiveOf s p xs) (receiveOf t q ys)
+      unfolding receiveOf
+      receive-worked c =
+          received _ _ _ _ _ _ (face-with _ _ ∙ f ∙ sym (face-with _ _))
+          (received-bits _ _ (p .count) xs _ (ltb-false _ _ (sym within ∙ c))
+          ∙ ap₂ (λ (x : Face) (n : ℕ). dataBits (widthOf (storedWidth (x .width))) n) f (a .count)
+          ∙ sym (received-bits _ _ (q .count) ys _ (ltb-false _ _ (sym within′ ∙ sym (a .beyond) ∙ c))))
 
--- a response as our tag takes it
-abbrev pub spokenOf : Message → List ℕ → Response
-spokenOf m b = record { kind = m .kind; payload = m .payload; count = m .count; room = length b }
+      work-worked : (x y : Bool) → eqb (p .kind) 0 ≡ x → Passed (keeping (faceOf s) (face-sound s sound) p) (closing (faceOf s) (face-sound s sound) p)
+          → Worked (workedOf (cond x (cond y Start Prove) Receive) s p key xs) (workedOf (cond x (cond y Start Prove) Receive) t q lock ys)
+      unfolding workedOf
+      work-worked true true k c = start-worked (passed-fields (faceOf s) (face-sound s sound) p q a k c)
+      work-worked true false k c = prove-worked (passed-fields (faceOf s) (face-sound s sound) p q a k c)
+      work-worked false y k c = receive-worked (neither _ _ (neither _ _ (c .kept .argument) .0) .0)
 
-module _ (s t : Tag) (f : faceOf s ≡ faceOf t) (sound : soundOf s ≡ true) (sound′ : soundOf t ≡ true) where
-  -- what is refused
-  kept-agree : (a : Answer) → ten a ≡ false → Agree s t (keptBy s a) (keptBy t a)
-  kept-agree a n = kept a n refl refl
+      carried-agree : soundOf t ≡ true → Agree s t (carriedOf s p key xs) (carriedOf t q lock ys)
+      unfolding carriedOf
+      carried-agree sound′ =
+          let g = faceOf s in
+          let v : commandVerdict (faceOf t) q ≡ commandVerdict g p = ap (λ (x : Face). commandVerdict x q) (sym f) ∙ sym (verdict-same g (face-sound s sound) p q a) in
+          let w : commandWork (faceOf t) (q .kind) ≡ commandWork g (p .kind) = ap₂ commandWork (sym f) (sym (a .kind)) in
+          rw (soundly (soundOf s) _ sound, soundly (soundOf t) _ sound′, v, w)
+          (unfold commandVerdict commandWork in
+          decided-agree (keeping g (face-sound s sound) p) (closing g (face-sound s sound) p) _ _ refl (work-worked (eqb (p .kind) 0) (fresh (rowOf (g .name))) refl))
 
-  closed-agree : (a : Answer) → ten a ≡ false → s .error ≡ false → Agree s t (closedBy s a) (closedBy t a)
-  closed-agree a n e = worked e (alike n (record { face = ap faceOf (closed-same s t f); answer = refl; bits = refl }))
+    -- ---- a response
 
-  module _ (i j : Rules.Command) (a : Told (s .width) (shownOf (s .width) i) (shownOf (s .width) j)) where
-    -- a command's work
-    start-worked : Fields (shownOf (s .width) i) (shownOf (s .width) j)
-        → Worked (startOf (i .payload) (i .features) (i .book) (i .number)) (startOf (j .payload) (j .features) (j .book) (j .number))
-    unfolding startOf shownOf
-    start-worked g = rw (g .method, g .keyid, g .options, a .features, a .number) (started _ _ _ _ _ _ _)
-
-    prove-worked : Fields (shownOf (s .width) i) (shownOf (s .width) j) → Worked (proveOf s (i .payload)) (proveOf t (j .payload))
-    unfolding proveOf shownOf
-    prove-worked g = rw (g .options, ap (λ (x : Face). x .name) f, ap (λ (x : Face). x .keyid) f) (proved _ _ _ _ _ _ _ _ _)
-
-    receive-worked : beyondOf (i .payload) (i .count) ≡ false → Worked (receiveOf s (i .kind) (i .payload) (i .count)) (receiveOf t (j .kind) (j .payload) (j .count))
-    unfolding receiveOf shownOf
-    receive-worked b =
-        received _ _ s t _ _ _ _ f
-        (received-bits _ _ (i .count) (i .payload) _ (ltb-false _ _ b)
-        ∙ ap₂ (λ (x : Face) (n : ℕ). dataBits (widthOf (storedWidth (x .width))) n) f (a .count)
-        ∙ sym (received-bits _ _ (j .count) (j .payload) _ (ltb-false _ _ (sym (a .beyond) ∙ b))))
-
-    work-worked : (x y : Bool) → eqb (i .kind) 0 ≡ x → Passed (checked s (shownOf (s .width) i))
-        → Worked (carryOf (cond x (cond y Plans.Start Plans.Prove) Plans.Receive) s i) (carryOf (cond x (cond y Plans.Start Plans.Prove) Plans.Receive) t j)
-    unfolding carryOf shownOf
-    work-worked true true k c = start-worked (passed-fields s sound (shownOf (s .width) i) (shownOf (s .width) j) a k c)
-    work-worked true false k c = prove-worked (passed-fields s sound (shownOf (s .width) i) (shownOf (s .width) j) a k c)
-    work-worked false y k c = receive-worked (or-false _ _ (or-false _ _ (c .argument) .0) .0)
-
-    pub command-agree : Agree s t (commandOf s i) (commandOf t j)
-    unfolding carryOf commandPlan shownOf
-    command-agree =
-        let p = shownOf (s .width) i in
-        let w = workOf (rowOf (s .name)) (i .kind) in
-        rw (planned s i (faceOf s) sound refl, planned t j (faceOf s) sound′ (sym f), ← plan-same s sound p (shownOf (s .width) j) a)
-        (by-order (λ (v : Verdict). Agree s t (carryOf (planFrom v w) s i) (carryOf (planFrom v w) t j))
-        (checked s p) kept-agree closed-agree (λ c. worked (c .error) (work-worked (eqb (i .kind) 0) (fresh (rowOf (s .name))) refl c)))
-
-  module _ (c d : Message) (b e : List ℕ) (a : AlikeResponses c d b e) where
-    -- a response's work
-    send-worked : beyondOf (c .payload) (c .count) ≡ false → Worked (sendOf s (c .kind) (c .payload) (c .count)) (sendOf t (d .kind) (d .payload) (d .count))
+    send-worked : (c d : Message) → AlikeResponses c d b e → beyondOf (c .payload) (c .count) ≡ false → Worked (sendOf s c) (sendOf t d)
     unfolding sendOf
-    send-worked h =
+    send-worked c d a h =
         let g : c .count ≤ 8 * length (c .payload) = ltb-false _ _ h in
         alike refl (record {
-          face = f;
+          face = face-with _ _ ∙ f ∙ sym (face-with _ _);
           answer = refl;
           bits = sent-bits _ _ (c .count) (c .payload) _ g
               ∙ ap₂ (λ (x : Face) (n : ℕ). n + 8 + widthOf (storedWidth (x .width))) f (a .count)
               ∙ sym (sent-bits _ _ (d .count) (d .payload) _ (rw (a .count, a .size) at g));
         })
 
-    pub response-agree : Agree s t (responseOf s (spokenOf c b)) (responseOf t (spokenOf d e))
-    unfolding respondOf responseVerdict
-    response-agree =
-        let checks : Message → ℕ → Checks = λ m n. responseChecks true (rowOf (s .name)) (faceOf s) (m .kind) (beyondOf (m .payload) (m .count)) (m .count) n in
-        let same : verdictOf (checks d (length e)) ≡ verdictOf (checks c (length b)) = cc in
-        rw (responded s (spokenOf c b) (faceOf s) sound refl, responded t (spokenOf d e) (faceOf s) sound′ (sym f), same)
-        (by-order (λ (v : Verdict). Agree s t (respondOf v s (spokenOf c b)) (respondOf v t (spokenOf d e)))
-        (checks c (length b)) kept-agree closed-agree (λ p. worked (p .error) (send-worked (or-false _ _ (or-false _ _ (p .argument) .0) .0))))
+    -- ---- the calls
+
+    module _ (sound : soundOf s ≡ true) (sound′ : soundOf t ≡ true) where
+      pub command-agree : (c d : Command) → AlikeCommands (faceOf s .width) c d b e → Agree s t (commandOf s c (length b)) (commandOf t d (length e))
+      unfolding commandOf
+      command-agree c d a =
+          let w : faceOf t .width ≡ faceOf s .width = ap (λ (x : Face). x .width) (sym f) in
+          rw w (unfold shownOf in carried-agree sound _ _ (told (faceOf s .width) c d b e a) _ _ (c .payload) (d .payload) refl refl sound′)
+
+      pub response-agree : (c d : Message) → AlikeResponses c d b e → Agree s t (responseOf s c (length b)) (responseOf t d (length e))
+      unfolding responseOf
+      response-agree c d a =
+          let g = faceOf s in
+          let k : Message → ℕ → Keeping = λ m n. responseKeeping (rowOf (g .name)) g (messageShown m n) in
+          let shown-same : messageShown d (length e) ≡ messageShown c (length b) = cc in
+          let v : responseVerdict (faceOf t) (messageShown d (length e)) ≡ responseVerdict g (messageShown c (length b)) = ap₂ responseVerdict (sym f) shown-same in
+          rw (soundly (soundOf s) _ sound, soundly (soundOf t) _ sound′, v)
+          (unfold responseVerdict in
+          decided-agree (k c (length b)) (responseClosing (rowOf (g .name)) g (messageShown c (length b))) _ _ refl
+          (λ p. send-worked c d a (neither _ _ (neither _ _ (p .kept .argument) .0) .0)))

@@ -8,8 +8,9 @@ use lib.Dec.{ltb, leb, eqb}
 use lib.ListN.{length}
 use Rattle.bits.specs.Area.{areaBytes, areaOf, shown}
 use Rattle.book.specs.Book as Book
-use Rattle.suite.specs.Payloads.{dataLimit}
-use Rattle.promises.specs.Machines.{Given, Seen, Command, Message, Begin, TagMachine, ReaderMachine}
+use Rattle.payloads.specs.Payloads.{dataLimit}
+use Rattle.rules.specs.Calls.{Command, Message, Begin}
+use Rattle.promises.specs.Machines.{Given, Seen, TagMachine, ReaderMachine}
 
 -- ---- what a call must refuse, whatever the state: refusals 2, 11 and 1, and at begin 5 and 4 too
 

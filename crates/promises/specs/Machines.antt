@@ -2,6 +2,7 @@
 use mathlib.Core.Bool.{Bool}
 use mathlib.Core.List.{List}
 use Prim.Native.Nat.{ℕ}
+use Rattle.rules.specs.Calls.{Command, Message, Begin}
 
 -- what a call gives: the next state, the answer's number, the reply's bit count, and the lent buffer as it is left
 pub record Given (S : Type 0) : Type 0 where
@@ -9,29 +10,6 @@ pub record Given (S : Type 0) : Type 0 where
   pub answer : ℕ
   pub bits : ℕ
   pub buffer : List ℕ
-
--- "A command call takes kind, bits, features, book and the tag's number"
-pub record Command : Type 0 where
-  pub kind : ℕ
-  pub payload : List ℕ
-  pub count : ℕ
-  pub features : ℕ
-  pub book : List ℕ
-  pub number : ℕ
-
--- "a response call takes kind and data"; the reader's messages have the same parts
-pub record Message : Type 0 where
-  pub kind : ℕ
-  pub payload : List ℕ
-  pub count : ℕ
-
--- "Begin (only when idle, else 9): method, options, KeyID, number, book"
-pub record Begin : Type 0 where
-  pub method : ℕ
-  pub options : ℕ
-  pub keyid : ℕ
-  pub number : ℕ
-  pub book : List ℕ
 
 -- what a tag shows of its state: its name (CS-Reset 0, TA.1 1, IA.1 2, IA.2 3, MA.1 4, MA.2 5), its flags and its width
 pub record Seen : Type 0 where

@@ -1,27 +1,21 @@
 // The work on messages, the same at tag and reader: data, eight zero bits, MAC.
 ghost use mathlib.Core.Path.{_≡_};
-ghost use mathlib.Core.List.{_++_};
 ghost use Prim.Native.Nat.{_+_, _*_, _≤_};
-ghost use lib.ListN.{length, take, drop};
-ghost use Rattle.bits.specs.Bytes.{bitsOfBytes, bytesOf};
+ghost use lib.ListN.{length, take};
+ghost use Rattle.bits.specs.Bytes.{bitsOfBytes};
 ghost use Rattle.bits.specs.Area.{shown};
 ghost use Rattle.grain.specs.Stored.{widthOf};
-ghost use Rattle.suite.specs.Messages.{dataBits, afterMessage, bodyOf, dataOf, sentSession, sentBits, sameMac};
+ghost use Rattle.states.specs.Sessions.{sentSession, sentBits};
+ghost use Rattle.suite.specs.Steps.{cameOf, receivedOf};
 use grain::Session;
 use grain::Width;
+use states::session;
 
-// What a message that came is found to be: the session after it, and whether its MAC is the receiver's.
+// What a message that came is found to be: the session after it, whether its MAC is the receiver's, and how many data bits it has.
 pub struct Received {
     pub session: Session,
     pub same: bool,
-}
-
-// How many of a message's bits are data, where the MAC has `w` bits.
-pub(crate) fn data_bits(w: usize, count: usize) -> usize
-    requires { ⌜ w ≤ 255 ⌝ }
-    ensures { λ r. ⌜ r ≡ dataBits w count ⌝ }
-{
-    if count < 8 + w { 0 } else { count - (8 + w) }
+    pub bits: usize,
 }
 
 // Sends the first `count` bits of `data`; the reply is the message.
@@ -38,13 +32,14 @@ pub(crate) fn send(
         × (now (reply .exit) ≡ shown (sentBits width secure (take count (bitsOfBytes (now («data» .entry)))) x) (now (reply .entry))) ⌝ }
 {
     bits::show(reply, data, count);
-    let next = sent_body(x, width, secure, reply, count);
+    let next = session::send(x, width, secure, reply, count);
     let w = width.bits();
     bits::put(reply, count + 8, w, next.acc);
     next
 }
 
-// Takes a message of `count` bits in; the reply is its data, also where its MAC differs: the caller wipes it then.
+// Takes a message of `count` bits in; the reply is its data, whatever its MAC: who asks for the verdict clears it (`took`), so that
+// the verdict is looked at once.
 pub(crate) fn receive(
     x: Session,
     width: Width,
@@ -54,41 +49,17 @@ pub(crate) fn receive(
     reply: &mut [u8],
 ) -> Received
     requires { ⌜ (265 ≤ length (now reply)) × ((8 + widthOf width ≤ count) × ((count ≤ 2120) × (count ≤ 8 * length (now payload)))) ⌝ }
-    ensures { λ r. ⌜ (r ≡ record {
-      session = afterMessage width (take (dataBits (widthOf width) count) (bitsOfBytes (now (payload .entry)))) x;
-      same = sameMac width (bitsOfBytes (now (payload .entry))) count x;
-    })
-        × (now (reply .exit) ≡ shown (dataOf width secure (take (dataBits (widthOf width) count) (bitsOfBytes (now (payload .entry)))) x) (now (reply .entry))) ⌝ }
+    ensures { λ r. ⌜ (r ≡ receivedOf width secure (bitsOfBytes (now (payload .entry))) count x)
+        × (now (reply .exit) ≡ shown (cameOf width secure (bitsOfBytes (now (payload .entry))) count x) (now (reply .entry))) ⌝ }
 {
     let w = width.bits();
-    let n = data_bits(w, count);
+    let n = payloads::data_bits(w, count);
     bits::show(reply, payload, n);
-    let session = received_body(x, width, secure, reply, n);
+    let session = session::receive(x, width, secure, reply, n);
     let mac = bits::field(payload, n + 8, w);
     Received {
         session,
         same: session.acc == mac,
+        bits: n,
     }
-}
-
-// The first `count` bits of `reply`, as they go out, where they stand.
-fn sent_body(x: Session, width: Width, secure: bool, reply: &mut [u8], count: usize) -> Session
-    ensures { λ r. ⌜ (r ≡ sentSession width secure (take count (bitsOfBytes (now (reply .entry)))) x)
-        × (now (reply .exit) ≡ bytesOf (length (now (reply .entry))) (bodyOf width secure (take count (bitsOfBytes (now (reply .entry)))) x ++ drop count (bitsOfBytes (now (reply .entry))))) ⌝ }
-{
-    if secure {
-        return x.encrypt(width, reply, count);
-    }
-    x.authenticate(width, reply, count)
-}
-
-// The first `count` bits of `reply`, as they came, become their data where they stand.
-fn received_body(x: Session, width: Width, secure: bool, reply: &mut [u8], count: usize) -> Session
-    ensures { λ r. ⌜ (r ≡ afterMessage width (take count (bitsOfBytes (now (reply .entry)))) x)
-        × (now (reply .exit) ≡ bytesOf (length (now (reply .entry))) (dataOf width secure (take count (bitsOfBytes (now (reply .entry)))) x ++ drop count (bitsOfBytes (now (reply .entry))))) ⌝ }
-{
-    if secure {
-        return x.decrypt(width, reply, count);
-    }
-    x.authenticate(width, reply, count)
 }

@@ -1,13 +1,11 @@
 // `tagrun` runs the frames of standard input through one tag and prints a line for each (document 01, "Host frames").
+use faces::Name;
 use frames::Refusal;
 use frames::Scanned;
 use libc::STDIN_FILENO;
 use libc::STDOUT_FILENO;
-use suite::Name;
 use suite::Step;
 use suite::Tag;
-ghost use Prim.Native.Nat.{_≤_};
-ghost use lib.ListN.{length};
 
 // The most bytes that it runs.
 const MOST_BYTES: usize = 32768;
@@ -62,84 +60,51 @@ fn run(input: &[u8]) {
 // The tag as a reset leaves it.
 fn fresh() -> Tag {
     let mut reply = [0u8; Tag::REPLY_BYTES];
-    Tag::reset(&mut reply).tag
+    Tag::reset(&mut reply).next
 }
 
-// Runs a frame, prints its line, and answers the next state.
+// Runs a frame and prints its line; the tag after it.
 fn run_frame(tag: Tag, number: u64, kind: u8, payload: &[u8], count: usize) -> Tag {
+    // KeyID 05 and the key of Annex D's set 6.
+    let book = b"\x05\x01\x23\x45\x67\x89\xAB\xCD\xEF\xFE\xDC\xBA\x98\x76\x54\x32\x10";
     let mut reply = [0u8; Tag::REPLY_BYTES];
-    let step = call(tag, kind, payload, count, &mut reply);
+    let step = host::run(
+        tag,
+        kind,
+        payload,
+        count,
+        FEATURES,
+        book,
+        NUMBER,
+        &mut reply,
+    );
     print_step(number, step, &reply);
-    step.tag
-}
-
-// Kinds 0 to 3 are commands, 4 and 5 responses wanted, 6 a reset.
-fn call(tag: Tag, kind: u8, payload: &[u8], count: usize, reply: &mut [u8]) -> Step {
-    if kind < 4 {
-        // KeyID 05 and the key of Annex D's set 6.
-        let book = b"\x05\x01\x23\x45\x67\x89\xAB\xCD\xEF\xFE\xDC\xBA\x98\x76\x54\x32\x10";
-        return tag.command(kind, payload, count, FEATURES, book, NUMBER, reply);
-    }
-    if kind < 6 {
-        return tag.response(kind, payload, count, reply);
-    }
-    Tag::reset(reply)
-}
-
-fn print_refusal(number: u64, why: Refusal) {
-    let mut line = [0u8; LINE_BYTES];
-    let at = put_refusal(&mut line, number, why);
-    print_line(&mut line, at);
-}
-
-fn print_step(number: u64, step: Step, reply: &[u8]) {
-    let mut line = [0u8; LINE_BYTES];
-    let at = put_step(&mut line, number, step, reply);
-    print_line(&mut line, at);
-}
-
-// The line whose text ends at `at`, in one write.
-fn print_line(line: &mut [u8], at: usize)
-    requires { ⌜ at ≤ length (now line) ⌝ }
-{
-    let n = text::put(line, at, b"\n");
-    io::write_all(STDOUT_FILENO, &line[..n]);
+    step.next
 }
 
 // Frame number, refusal.
-fn put_refusal(out: &mut [u8], number: u64, why: Refusal) -> usize
-    ensures { λ r. ⌜ r ≤ length (now (out .exit)) ⌝ }
-{
-    let at = text::spaced(out, 0, number);
-    text::decimal(out, at, why.number() as u64)
+fn print_refusal(number: u64, why: Refusal) {
+    let mut line = [0u8; LINE_BYTES];
+    let at = text::spaced(&mut line, 0, number);
+    let at = text::decimal(&mut line, at, why.number() as u64);
+    console::print(&mut line, at);
 }
 
 // Frame number, answer, state, reply bits, reply.
-fn put_step(out: &mut [u8], number: u64, step: Step, reply: &[u8]) -> usize
-    ensures { λ r. ⌜ r ≤ length (now (out .exit)) ⌝ }
-{
+fn print_step(number: u64, step: Step, reply: &[u8]) {
     let answer = step.answer;
-    let tag = step.tag;
-    let name = tag.name;
-    let at = put_answer(out, number, answer.number() as u64);
-    let at = put_name(out, at, name);
-    let at = text::spaced(out, at, step.bits as u64);
-    text::reply(out, at, reply, step.bits)
-}
-
-// Frame number, answer.
-fn put_answer(out: &mut [u8], number: u64, answer: u64) -> usize
-    ensures { λ r. ⌜ r ≤ length (now (out .exit)) ⌝ }
-{
-    let at = text::spaced(out, 0, number);
-    text::spaced(out, at, answer)
+    let name = step.next.state.face().name;
+    let mut line = [0u8; LINE_BYTES];
+    let at = text::spaced(&mut line, 0, number);
+    let at = text::spaced(&mut line, at, answer.number() as u64);
+    let at = put_name(&mut line, at, name);
+    let at = text::spaced(&mut line, at, step.bits as u64);
+    let at = text::reply(&mut line, at, reply, step.bits);
+    console::print(&mut line, at);
 }
 
 // A state's name, and the space behind it.
-fn put_name(out: &mut [u8], at: usize, name: Name) -> usize
-    requires { ⌜ at ≤ length (now out) ⌝ }
-    ensures { λ r. ⌜ r ≤ length (now (out .exit)) ⌝ }
-{
+fn put_name(out: &mut [u8], at: usize, name: Name) -> usize {
     match name {
         Name::CsReset => text::put(out, at, b"CS-Reset "),
         Name::Ta1 => text::put(out, at, b"TA.1 "),

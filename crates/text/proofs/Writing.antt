@@ -1,19 +1,14 @@
 -- Texts that are written one behind the other. Assumes nothing.
-use Prim.Native.Nat.{ℕ, suc, _+_, _≤_, min}
-use mathlib.Core.List.{List, [], _∷_, _++_}
+use Prim.Native.Nat.{ℕ, _+_, min}
+use mathlib.Core.List.{List, [], _++_}
 use mathlib.Core.Path.{_≡_, refl, ap, sym, _∙_}
 use native.Mathlib.Decide.{decLe}
 use native.Mathlib.Nat.{min-eq-left}
 use native.Mathlib.Omega.{arith}
 use lib.ListN.{length, take, length-append}
-use lib.Seq.{sets, set-out, take-all, length-sets}
-use Rattle.bits.proofs.Lists.{sets-append}
+use lib.Seq.{sets, take-all, length-sets}
+use Rattle.bits.proofs.Lists.{sets-append, sets-out}
 use Rattle.text.specs.Text.{Writes}
-
--- stores past the end are dropped
-sets-out : (l : List ℕ) (i : ℕ) (vs : List ℕ) → length l ≤ i → sets l i vs ≡ l
-sets-out l i [] h = refl
-sets-out l i (v ∷ vs) h = rw (set-out l i v h) (sets-out l (suc i) vs (omega arith))
 
 -- nothing is written where it is
 pub empty : (l : List ℕ) (at : ℕ) → Writes [] l at l at

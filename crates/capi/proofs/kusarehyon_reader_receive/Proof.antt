@@ -1,12 +1,11 @@
 -- `capi::kusarehyon_reader_receive` meets its contract.
-use Rattle.capi.specs.Calls.{receiveCalled, readerCalled}
-use Rattle.capi.proofs.Calls.{denied, granted, reader-size, refused, reader-stepped}
+use Rattle.capi.proofs.Calls.{readerSteps, spelled, unspelled}
 use borrow.Author.Needs.{needs}
 use Rattle.capi.proofs.kusarehyon_reader_receive.Statement.{statement}
 use Rattle.capi.proofs.kusarehyon_reader_receive.Tie as tie
 
-spells-reader-requires : tie.Need-spells-reader-requires
-spells-reader-requires c κs = search needs
+spells-requires : tie.Need-spells-requires
+spells-requires c κs = search needs
 
 refused-requires : tie.Need-refused-requires
 refused-requires c κs = search needs
@@ -18,22 +17,19 @@ same-length-2 : tie.Need-same-length-2
 same-length-2 c = search needs
 
 returns : tie.Need-returns
-unfolding receiveCalled readerCalled
 returns c =
     let f = c .before .before in
     let t = f .before .before .before in
-    rw (denied _ (t .before .spells-reader .ensures) (t .if1 .taken)) (refused _ _ _ _ _ _ (f .refused .ensures))
+    unspelled readerSteps _ _ _ _ _ _ (t .before .spells .ensures) _ (t .if1 .taken) (f .refused .ensures)
 
-reader-requires : tie.Need-reader-requires
-reader-requires c κs = search needs
+read-requires : tie.Need-read-requires
+read-requires c κs = search needs
 
 receive-requires : tie.Need-receive-requires
 receive-requires c κs = search needs
 
 reader-stepped-requires : tie.Need-reader-stepped-requires
-reader-stepped-requires c κs =
-    let e = c .before .before .before .before .before .before .before .before in
-    reader-size _ (granted _ (e .before .spells-reader .ensures) (e .if1 .left))
+reader-stepped-requires c κs = search needs
 
 same-length-3 : tie.Need-same-length-3
 same-length-3 c = search needs
@@ -42,24 +38,23 @@ same-length-4 : tie.Need-same-length-4
 same-length-4 c = search needs
 
 returns-2 : tie.Need-returns-2
-unfolding receiveCalled readerCalled
 returns-2 c =
     let p = c .before .before in
     let m = p .before .before .before .before .before in
     let t = m .before .before in
     let e = t .before .before in
-    rw (granted _ (e .before .spells-reader .ensures) (e .if1 .left), ← t .reader .ensures) (reader-stepped _ _ _ _ _ _ _ (m .receive .ensures) (p .reader-stepped .ensures))
+    spelled readerSteps _ _ _ _ _ _ (e .before .spells .ensures) _ (e .if1 .left) _ (t .read .ensures) _ _ (m .receive .ensures) (p .reader-stepped .ensures)
 
 pub kusarehyon-reader-receive-spec : {M : Type 1} → statement M
 kusarehyon-reader-receive-spec =
     tie.close
     (tie.spec
-    spells-reader-requires
+    spells-requires
     refused-requires
     same-length
     same-length-2
     returns
-    reader-requires
+    read-requires
     receive-requires
     reader-stepped-requires
     same-length-3

@@ -1,7 +1,5 @@
 -- `capi::kusarehyon_reader_reset` meets its contract.
-use borrow.Author.Tests.{eq-eqb, ne-eqb}
-use Rattle.capi.specs.Calls.{readerResetCalled}
-use Rattle.capi.proofs.Calls.{refused, reader-stepped}
+use Rattle.capi.proofs.Calls.{readerSteps, reset-stepped, reset-refused}
 use borrow.Author.Needs.{needs}
 use Rattle.capi.proofs.kusarehyon_reader_reset.Statement.{statement}
 use Rattle.capi.proofs.kusarehyon_reader_reset.Tie as tie
@@ -13,11 +11,9 @@ same-length : tie.Need-same-length
 same-length c = search needs
 
 returns : tie.Need-returns
-unfolding readerResetCalled
 returns c =
     let f = c .before .before in
-    let t = f .before .before .before in
-    rw (ne-eqb _ _ (t .if1 .taken)) (refused _ _ _ _ _ _ (f .refused .ensures))
+    reset-refused readerSteps _ _ _ _ _ _ (f .before .before .before .if1 .taken) (f .refused .ensures)
 
 reset-requires : tie.Need-reset-requires
 reset-requires c κs = search needs
@@ -32,12 +28,10 @@ same-length-3 : tie.Need-same-length-3
 same-length-3 c = search needs
 
 returns-2 : tie.Need-returns-2
-unfolding readerResetCalled
 returns-2 c =
     let p = c .before .before in
     let m = p .before .before .before .before .before in
-    let e = m .before .before in
-    rw (eq-eqb _ _ (e .if1 .left)) (reader-stepped _ _ _ _ _ _ _ (m .reset .ensures) (p .reader-stepped .ensures))
+    reset-stepped readerSteps _ _ _ _ _ _ (m .before .before .if1 .left) _ _ (m .reset .ensures) (p .reader-stepped .ensures)
 
 pub kusarehyon-reader-reset-spec : {M : Type 1} → statement M
 kusarehyon-reader-reset-spec =

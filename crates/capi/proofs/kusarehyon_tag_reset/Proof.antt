@@ -1,7 +1,5 @@
 -- `capi::kusarehyon_tag_reset` meets its contract.
-use borrow.Author.Tests.{eq-eqb, ne-eqb}
-use Rattle.capi.specs.Calls.{tagResetCalled}
-use Rattle.capi.proofs.Calls.{refused, stepped}
+use Rattle.capi.proofs.Calls.{tagSteps, reset-stepped, reset-refused}
 use borrow.Author.Needs.{needs}
 use Rattle.capi.proofs.kusarehyon_tag_reset.Statement.{statement}
 use Rattle.capi.proofs.kusarehyon_tag_reset.Tie as tie
@@ -13,11 +11,9 @@ same-length : tie.Need-same-length
 same-length c = search needs
 
 returns : tie.Need-returns
-unfolding tagResetCalled
 returns c =
     let f = c .before .before in
-    let t = f .before .before .before in
-    rw (ne-eqb _ _ (t .if1 .taken)) (refused _ _ _ _ _ _ (f .refused .ensures))
+    reset-refused tagSteps _ _ _ _ _ _ (f .before .before .before .if1 .taken) (f .refused .ensures)
 
 reset-requires : tie.Need-reset-requires
 reset-requires c κs = search needs
@@ -32,12 +28,10 @@ same-length-3 : tie.Need-same-length-3
 same-length-3 c = search needs
 
 returns-2 : tie.Need-returns-2
-unfolding tagResetCalled
 returns-2 c =
     let p = c .before .before in
     let m = p .before .before .before .before .before in
-    let e = m .before .before in
-    rw (eq-eqb _ _ (e .if1 .left)) (stepped _ _ _ _ _ _ _ (m .reset .ensures) (p .stepped .ensures))
+    reset-stepped tagSteps _ _ _ _ _ _ (m .before .before .if1 .left) _ _ (m .reset .ensures) (p .stepped .ensures)
 
 pub kusarehyon-tag-reset-spec : {M : Type 1} → statement M
 kusarehyon-tag-reset-spec =

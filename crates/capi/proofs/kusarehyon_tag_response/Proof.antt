@@ -1,12 +1,11 @@
 -- `capi::kusarehyon_tag_response` meets its contract.
-use Rattle.capi.specs.Calls.{responseCalled, tagCalled}
-use Rattle.capi.proofs.Calls.{denied, granted, tag-size, refused, stepped}
+use Rattle.capi.proofs.Calls.{tagSteps, spelled, unspelled}
 use borrow.Author.Needs.{needs}
 use Rattle.capi.proofs.kusarehyon_tag_response.Statement.{statement}
 use Rattle.capi.proofs.kusarehyon_tag_response.Tie as tie
 
-spells-tag-requires : tie.Need-spells-tag-requires
-spells-tag-requires c κs = search needs
+spells-requires : tie.Need-spells-requires
+spells-requires c κs = search needs
 
 refused-requires : tie.Need-refused-requires
 refused-requires c κs = search needs
@@ -18,22 +17,19 @@ same-length-2 : tie.Need-same-length-2
 same-length-2 c = search needs
 
 returns : tie.Need-returns
-unfolding responseCalled tagCalled
 returns c =
     let f = c .before .before in
     let t = f .before .before .before in
-    rw (denied _ (t .before .spells-tag .ensures) (t .if1 .taken)) (refused _ _ _ _ _ _ (f .refused .ensures))
+    unspelled tagSteps _ _ _ _ _ _ (t .before .spells .ensures) _ (t .if1 .taken) (f .refused .ensures)
 
-tag-requires : tie.Need-tag-requires
-tag-requires c κs = search needs
+read-requires : tie.Need-read-requires
+read-requires c κs = search needs
 
 response-requires : tie.Need-response-requires
 response-requires c κs = search needs
 
 stepped-requires : tie.Need-stepped-requires
-stepped-requires c κs =
-    let e = c .before .before .before .before .before .before .before .before in
-    tag-size _ (granted _ (e .before .spells-tag .ensures) (e .if1 .left))
+stepped-requires c κs = search needs
 
 same-length-3 : tie.Need-same-length-3
 same-length-3 c = search needs
@@ -42,24 +38,23 @@ same-length-4 : tie.Need-same-length-4
 same-length-4 c = search needs
 
 returns-2 : tie.Need-returns-2
-unfolding responseCalled tagCalled
 returns-2 c =
     let p = c .before .before in
     let m = p .before .before .before .before .before in
     let t = m .before .before in
     let e = t .before .before in
-    rw (granted _ (e .before .spells-tag .ensures) (e .if1 .left), ← t .tag .ensures) (stepped _ _ _ _ _ _ _ (m .response .ensures) (p .stepped .ensures))
+    spelled tagSteps _ _ _ _ _ _ (e .before .spells .ensures) _ (e .if1 .left) _ (t .read .ensures) _ _ (m .response .ensures) (p .stepped .ensures)
 
 pub kusarehyon-tag-response-spec : {M : Type 1} → statement M
 kusarehyon-tag-response-spec =
     tie.close
     (tie.spec
-    spells-tag-requires
+    spells-requires
     refused-requires
     same-length
     same-length-2
     returns
-    tag-requires
+    read-requires
     response-requires
     stepped-requires
     same-length-3

@@ -4,9 +4,9 @@ use mathlib.Core.Path.{_≡_}
 use native.Mathlib.Omega.{arith}
 use borrow.Author.Needs.{needs}
 use borrow.Author.Tests.{lt-ltb, le-ltb}
+use Rattle.counts.specs.declared.Checked.the-variants.{Fine}
+use Rattle.counts.specs.declared.Refusal.the-variants.{Room}
 use Rattle.frames.specs.Frame.{placed}
-use Rattle.frames.specs.declared.Checked.the-variants.{Fine}
-use Rattle.frames.specs.declared.Refusal.the-variants.{Room}
 use Rattle.frames.specs.declared.Written.the-variants.{Refused}
 use Rattle.frames.proofs.place.Statement.{statement}
 use Rattle.frames.proofs.place.Tie as tie

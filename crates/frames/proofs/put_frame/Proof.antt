@@ -5,9 +5,9 @@ use mathlib.Core.Path.{_∙_}
 use lib.ListN.{take}
 use borrow.Author.Needs.{needs}
 use denote.Ref.{now}
-use Rattle.frames.specs.Count.{countBytes}
+use Rattle.counts.specs.Count.{countBytes}
 use Rattle.frames.proofs.Answers.{frame-runs}
-use Rattle.frames.proofs.Tails.{three-runs}
+use Rattle.frames.proofs.Runs.{three-runs}
 use Rattle.frames.proofs.put_frame.Statement.{statement}
 use Rattle.frames.proofs.put_frame.Tie as tie
 
@@ -26,20 +26,20 @@ put-kind-requires c κs = search needs
 add-c : tie.Need-add-c
 add-c c = search needs
 
-sub-put-count : tie.Need-sub-put-count
-sub-put-count c = search needs
+sub-put : tie.Need-sub-put
+sub-put c = search needs
 
-part-put-count-start : tie.Need-part-put-count-start
-part-put-count-start c = search needs
+part-put-start : tie.Need-part-put-start
+part-put-start c = search needs
 
-part-put-count-end : tie.Need-part-put-count-end
-part-put-count-end c = search needs
+part-put-end : tie.Need-part-put-end
+part-put-end c = search needs
 
-put-count-requires : tie.Need-put-count-requires
-put-count-requires c κs = search needs
+put-requires : tie.Need-put-requires
+put-requires c κs = search needs
 
-count-size-requires : tie.Need-count-size-requires
-count-size-requires c κs = search needs
+groups-requires : tie.Need-groups-requires
+groups-requires c κs = search needs
 
 add-p : tie.Need-add-p
 add-p c = search needs
@@ -70,11 +70,11 @@ returns c =
     let n = w .before .before .before in
     let k = n .before .before .before .before in
     let a = k .before .before .before .before .args in
-    three-runs (now (a .out)) (k .put-kind .last .0) (n .put-count .last .0) (p .put-payload .last .0)
+    three-runs (now (a .out)) (k .put-kind .last .0) (n .put .last .0) (p .put-payload .last .0)
     (a .kind ∷ []) (countBytes (a .count)) (take (m .result) (now (a .payload)))
-    (a .at) (a .at + 1) (a .at + 1 + w .count-size .result)
-    (k .put-kind .ensures) (n .put-count .ensures) (p .put-payload .ensures)
-    ∙ rw (m .ensures, w .count-size .ensures .0) (frame-runs (now (a .out)) (a .at) (a .kind) (a .count) (now (a .payload)))
+    (a .at) (a .at + 1) (a .at + 1 + w .groups .result)
+    (k .put-kind .ensures) (n .put .ensures) (p .put-payload .ensures)
+    ∙ rw (m .ensures, w .groups .ensures) (frame-runs (now (a .out)) (a .at) (a .kind) (a .count) (now (a .payload)))
 
 pub put-frame-spec : {M : Type 1} → statement M
 put-frame-spec =
@@ -85,11 +85,11 @@ put-frame-spec =
     part-put-kind-end
     put-kind-requires
     add-c
-    sub-put-count
-    part-put-count-start
-    part-put-count-end
-    put-count-requires
-    count-size-requires
+    sub-put
+    part-put-start
+    part-put-end
+    put-requires
+    groups-requires
     add-p
     sub-put-payload
     part-put-payload-start

@@ -6,7 +6,7 @@ use lib.ListN.{length, take}
 use lib.Seq.{sets}
 use borrow.Author.Needs.{needs}
 use denote.Ref.{now}
-use Rattle.frames.proofs.Tails.{copied}
+use Rattle.frames.proofs.Runs.{copied}
 use Rattle.frames.proofs.put_payload.Statement.{statement}
 use Rattle.frames.proofs.put_payload.Tie as tie
 

@@ -4,8 +4,8 @@ use lib.ListN.{getD}
 use borrow.Author.Needs.{needs}
 use borrow.Author.Tests.{lt-ltb, le-ltb, ne-eqb}
 use denote.Ref.{now}
+use Rattle.counts.proofs.Counts.{count-within}
 use Rattle.frames.specs.Frame.{mostBits, afterCount, scanOf}
-use Rattle.frames.proofs.Counts.{count-within}
 use Rattle.frames.proofs.scan.Statement.{statement}
 use Rattle.frames.proofs.scan.Tie as tie
 
@@ -20,8 +20,8 @@ returns-2 : tie.Need-returns-2
 unfolding scanOf
 returns-2 c = simp (ne-eqb _ _ (c .before .before .if1 .left), lt-ltb _ _ (c .if2 .taken))
 
-read-count-requires : tie.Need-read-count-requires
-read-count-requires c κs = search needs
+read-requires : tie.Need-read-requires
+read-requires c κs = search needs
 
 enum-known-why : tie.Need-enum-known-why
 enum-known-why c = search needs
@@ -31,19 +31,19 @@ enum-known-count c = search needs
 
 -- behind the count's call, the frame is what it found
 found :
-    (c : tie.After-read-count) →
+    (c : tie.After-read) →
     (let s = now (c .before .before .before .before .before .args .s) in
-    scanOf s ≡ afterCount s (getD s 0 0) (c .read-count .result))
+    scanOf s ≡ afterCount s (getD s 0 0) (c .read .result))
 unfolding scanOf
 found c =
-    simp (ne-eqb _ _ (c .before .before .before .if1 .left), le-ltb _ _ (c .before .if2 .left)) (rw (c .read-count .ensures))
+    simp (ne-eqb _ _ (c .before .before .before .if1 .left), le-ltb _ _ (c .before .if2 .left)) (rw (c .read .ensures))
 
 frame-at-requires : tie.Need-frame-at-requires
 frame-at-requires c κs =
     let r = c .before .before .before in
     let k = r .before .before in
     count-within (now (k .before .before .before .args .s)) 1 mostBits _ _ (k .shared-slice-known2 .given)
-    (rw (r .read-count .ensures) at (c .before .count .given .1)) (search needs)
+    (rw (r .read .ensures) at (c .before .count .given .1)) (search needs)
 
 returns-3 : tie.Need-returns-3
 unfolding afterCount
@@ -60,7 +60,7 @@ scan-spec =
     returns
     shared-slice-read-kind
     returns-2
-    read-count-requires
+    read-requires
     enum-known-why
     enum-known-count
     frame-at-requires

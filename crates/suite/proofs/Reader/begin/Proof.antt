@@ -1,89 +1,77 @@
 -- `suite::Reader::begin` meets its contract.
-use mathlib.Core.Path.{_≡_, refl, sym, ap, _∙_}
+use mathlib.Core.Path.{_≡_, sym, _∙_}
 use lib.ListN.{length}
-use Rattle.bits.specs.Bytes.{bitsOfBytes, fieldOf}
-use Rattle.suite.specs.declared.Verdict.{Verdict}
-use Rattle.suite.specs.declared.Verdict.the-variants.{Go}
-use Rattle.book.specs.Book as Book
-use Rattle.suite.specs.ReaderRules.{readerSound, readerFace, beginVerdict}
-use Rattle.suite.specs.ReaderWork.{beginOf, beginBy}
-use Rattle.suite.proofs.ReaderPlans.{Speakable, begins}
+use Rattle.rules.specs.Results.{decided}
+use Rattle.rules.specs.ReaderRules.{beginShown}
+use Rattle.book.proofs.Laws.{key-length}
+use Rattle.machines.specs.ReaderWork.{beginJudged, beginOf}
 use borrow.Author.Needs.{needs}
 use Rattle.suite.proofs.Reader.begin.Statement.{statement}
 use Rattle.suite.proofs.Reader.begin.Tie as tie
 
+-- the verdict is on what the call shows
+judged : (c : tie.After-begin)
+    → let a = c .before .before .before .before .before .before .args in
+    c .begin .result ≡ beginJudged (a .self .state) (beginShown (record { method = a .method; options = a .options; keyid = a .keyid; number = a .number; book = a .book .now }) (length (a .reply .now)))
+judged c = rw (c .before .sound .ensures, c .before .before .find .ensures, key-length) at (c .begin .ensures)
+
+find-requires : tie.Need-find-requires
+find-requires c κs = search needs
+
 sound-requires : tie.Need-sound-requires
 sound-requires c κs = search needs
 
-known-requires : tie.Need-known-requires
-known-requires c κs = search needs
+begin-requires : tie.Need-begin-requires
+begin-requires c κs = search needs
 
-begin-verdict-requires : tie.Need-begin-verdict-requires
-begin-verdict-requires c κs = search needs
+enum-known-closes : tie.Need-enum-known-closes
+enum-known-closes c = search needs
 
-enum-known-verdict : tie.Need-enum-known-verdict
-enum-known-verdict c = search needs
-
-kept-requires : tie.Need-kept-requires
-kept-requires c κs = search needs
-
-enum-known-verdict-2 : tie.Need-enum-known-verdict-2
-enum-known-verdict-2 c = search needs
-
-kept-requires-2 : tie.Need-kept-requires-2
-kept-requires-2 c κs = search needs
+refuse-requires : tie.Need-refuse-requires
+refuse-requires c κs = search needs
 
 enum-told : tie.Need-enum-told
 enum-told c = search needs
 
--- the verdict of the call, where what the code found is q
-told : (c : tie.After-begin-verdict) (q : Verdict) → c .begin-verdict .result ≡ q
-    → let a = c .before .before .before .before .before .args in
-    beginVerdict (readerSound (a .self)) (readerFace (a .self)) (a .method) (a .options) (a .number) (Book.soundOf (a .book .now)) (Book.knownOf (a .keyid) (a .book .now)) (length (a .reply .now)) ≡ q
-told c q e = sym (rw (c .before .known .ensures, c .before .before .sound .ensures) at (c .begin-verdict .ensures)) ∙ e
+begin-requires-2 : tie.Need-begin-requires-2
+begin-requires-2 c κs = search needs
 
-begin-requires : tie.Need-begin-requires
-begin-requires c κs =
-    let s = begins _ _ _ _ _ _ _ _ (told (c .before .before .before) Go (c .before .enum-told .given .1)) in
-    (s .room, (s .method, s .options))
+say-requires : tie.Need-say-requires
+say-requires c κs = search needs
 
 same-length : tie.Need-same-length
 same-length c = search needs
 
 returns : tie.Need-returns
-unfolding beginOf beginBy
-returns c = rw (told (c .before .before .before .before .before .before .before) _ (c .before .before .before .before .before .verdict .given .1)) (c .before .before .kept .ensures)
+unfolding beginOf decided
+returns c =
+    let d = c .before .before .before .before .before in
+    rw (sym (judged (d .before .before)) ∙ d .closes .given .1) (c .before .before .refuse .ensures)
 
 same-length-2 : tie.Need-same-length-2
 same-length-2 c = search needs
 
 returns-2 : tie.Need-returns-2
-unfolding beginOf beginBy
-returns-2 c = rw (told (c .before .before .before .before .before .before .before) _ (c .before .before .before .before .before .verdict2 .given .1)) (c .before .before .kept2 .ensures)
-
-same-length-3 : tie.Need-same-length-3
-same-length-3 c = search needs
-
-returns-3 : tie.Need-returns-3
-unfolding beginOf beginBy
-returns-3 c = rw (told (c .before .before .before .before .before .before) Go (c .before .before .before .before .enum-told .given .1)) (c .before .before .begin .ensures)
+unfolding beginOf decided
+returns-2 c =
+    let w = c .before .before .before .before in
+    let d = w .before in
+    let v = d .before .before in
+    rw (sym (judged v) ∙ d .enum-told .given .1) (rw (w .begin2 .ensures, v .before .before .find .ensures) at (c .before .before .say .ensures))
 
 pub begin-spec : {M : Type 1} → statement M
 begin-spec =
     tie.close
     (tie.spec
+    find-requires
     sound-requires
-    known-requires
-    begin-verdict-requires
-    enum-known-verdict
-    kept-requires
-    enum-known-verdict-2
-    kept-requires-2
-    enum-told
     begin-requires
+    enum-known-closes
+    refuse-requires
+    enum-told
+    begin-requires-2
+    say-requires
     same-length
     returns
     same-length-2
-    returns-2
-    same-length-3
-    returns-3)
+    returns-2)

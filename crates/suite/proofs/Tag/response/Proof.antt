@@ -1,84 +1,62 @@
 -- `suite::Tag::response` meets its contract.
-use mathlib.Core.Path.{_≡_, refl, sym, ap, _∙_}
-use Prim.Native.Nat.{ℕ, _≤_}
+use mathlib.Core.Path.{refl, sym, _∙_}
 use lib.ListN.{length}
-use Rattle.suite.specs.declared.Verdict.{Verdict}
-use Rattle.suite.specs.declared.Verdict.the-variants.{Keep, Close, Go}
-use Rattle.suite.specs.TagRules.{soundOf, faceOf, responseVerdict, beyondOf}
-use Rattle.suite.specs.TagWork.{responseOf, respondOf}
-use Rattle.suite.proofs.Plans.{Sendable, sendable}
+use Rattle.rules.specs.Results.{decided}
+use Rattle.rules.proofs.TagLaws.{response-sendable}
+use Rattle.rules.proofs.Verdicts.{sound-goes}
+use Rattle.machines.specs.TagWork.{responseOf}
 use borrow.Author.Needs.{needs}
 use Rattle.suite.proofs.Tag.response.Statement.{statement}
 use Rattle.suite.proofs.Tag.response.Tie as tie
 
-beyond-requires : tie.Need-beyond-requires
-beyond-requires c κs = search needs
+response-requires : tie.Need-response-requires
+response-requires c κs = search needs
 
-response-verdict-requires : tie.Need-response-verdict-requires
-response-verdict-requires c κs = search needs
+enum-known-closes : tie.Need-enum-known-closes
+enum-known-closes c = search needs
 
-enum-known-verdict : tie.Need-enum-known-verdict
-enum-known-verdict c = search needs
-
-kept-requires : tie.Need-kept-requires
-kept-requires c κs = search needs
-
-enum-known-verdict-2 : tie.Need-enum-known-verdict-2
-enum-known-verdict-2 c = search needs
-
-closed-requires : tie.Need-closed-requires
-closed-requires c κs = search needs
+refuse-requires : tie.Need-refuse-requires
+refuse-requires c κs = search needs
 
 enum-told : tie.Need-enum-told
 enum-told c = search needs
 
--- the verdict of the call, where what the code found is q
-told : (c : tie.After-response-verdict) (q : Verdict) → c .response-verdict .result ≡ q
-    → let a = c .before .before .before .before .args in
-    responseVerdict (soundOf (a .self)) (faceOf (a .self)) (a .kind) (beyondOf (a .«data» .now) (a .count)) (a .count) (length (a .reply .now)) ≡ q
-told c q e = sym (rw (c .before .beyond .ensures) at (c .response-verdict .ensures)) ∙ e
-
 send-requires : tie.Need-send-requires
 send-requires c κs =
-    let s = sendable _ _ _ _ _ _ (told (c .before .before .before) Go (c .before .enum-told .given .1)) in
-    (s .room, (s .most, s .within))
+    let d = c .before .before .before in
+    let a = d .before .before .before .before .args in
+    let g = sound-goes _ _ (sym (d .response .ensures) ∙ c .before .enum-told .given .1) in
+    let s = response-sendable _ _ (g .1) (length (a .«data» .now)) refl in
+    (s .roomy, (s .most, s .within))
 
 same-length : tie.Need-same-length
 same-length c = search needs
 
 returns : tie.Need-returns
-unfolding responseOf respondOf
-returns c = rw (told (c .before .before .before .before .before .before .before) _ (c .before .before .before .before .before .verdict .given .1)) (c .before .before .kept .ensures)
+unfolding responseOf decided
+returns c =
+    let d = c .before .before .before .before .before in
+    rw (sym (d .before .before .response .ensures) ∙ d .closes .given .1) (c .before .before .refuse .ensures)
 
 same-length-2 : tie.Need-same-length-2
 same-length-2 c = search needs
 
 returns-2 : tie.Need-returns-2
-unfolding responseOf respondOf
-returns-2 c = rw (told (c .before .before .before .before .before .before .before) _ (c .before .before .before .before .before .verdict2 .given .1)) (c .before .before .closed .ensures)
-
-same-length-3 : tie.Need-same-length-3
-same-length-3 c = search needs
-
-returns-3 : tie.Need-returns-3
-unfolding responseOf respondOf
-returns-3 c = rw (told (c .before .before .before .before .before .before) Go (c .before .before .before .before .enum-told .given .1)) (c .before .before .send .ensures)
+unfolding responseOf decided
+returns-2 c =
+    let d = c .before .before .before .before in
+    rw (sym (d .before .before .response .ensures) ∙ d .enum-told .given .1) (c .before .before .send .ensures)
 
 pub response-spec : {M : Type 1} → statement M
 response-spec =
     tie.close
     (tie.spec
-    beyond-requires
-    response-verdict-requires
-    enum-known-verdict
-    kept-requires
-    enum-known-verdict-2
-    closed-requires
+    response-requires
+    enum-known-closes
+    refuse-requires
     enum-told
     send-requires
     same-length
     returns
     same-length-2
-    returns-2
-    same-length-3
-    returns-3)
+    returns-2)

@@ -7,8 +7,10 @@ use lib.ListN.{take}
 use Rattle.bits.specs.Bytes.{bitsOfBytes}
 use Rattle.grain.specs.Stored.{widthOf}
 use Rattle.grain.proofs.Words.{width-small}
-use Rattle.suite.specs.Messages.{bodyOf, sentSession, sentBits}
-use Rattle.suite.proofs.Replies.{message-put, length-first, shown-worked, length-bodyOf}
+use Rattle.states.specs.Sessions.{bodyOf, sentSession, sentBits}
+use Rattle.bits.proofs.Replies.{length-first, shown-worked}
+use Rattle.payloads.proofs.Layouts.{message-put}
+use Rattle.states.proofs.Sessions.{length-bodyOf}
 use borrow.Author.Needs.{needs}
 use Rattle.suite.proofs.message.send.Statement.{statement}
 use Rattle.suite.proofs.message.send.Tie as tie
@@ -16,8 +18,8 @@ use Rattle.suite.proofs.message.send.Tie as tie
 show-requires : tie.Need-show-requires
 show-requires c κs = search needs
 
-sent-body-requires : tie.Need-sent-body-requires
-sent-body-requires c κs = search needs
+send-requires : tie.Need-send-requires
+send-requires c κs = search needs
 
 bits-requires : tie.Need-bits-requires
 bits-requires c κs = search needs
@@ -45,7 +47,7 @@ returns c =
     let k = length-bodyOf (a .width) (a .secure) ms (a .x) ∙ n in
     let r =
     shown-worked ms (a .count) (a .reply .now) _ _ _ (λ (l : List Bool). sentSession (a .width) (a .secure) l (a .x)) (λ (l : List Bool). bodyOf (a .width) (a .secure) l (a .x))
-    o n (omega arith) k (s .show .ensures) (b .sent-body .ensures) in
+    o n (omega arith) k (s .show .ensures) (b .send .ensures) in
     let h = width-small (a .width) in (
       r .0,
       message-put _ (a .count) (widthOf (a .width)) _ (a .reply .now) _ _ o k (h .1) (omega arith) (r .1) (rw (r .0, w .bits .ensures) at (c .before .before .put .ensures)),
@@ -56,7 +58,7 @@ send-spec =
     tie.close
     (tie.spec
     show-requires
-    sent-body-requires
+    send-requires
     bits-requires
     add-put
     put-requires

@@ -1,66 +1,62 @@
 -- `suite::reader_work::send` meets its contract.
-use mathlib.Core.Path.{_≡_, sym, ap, _∙_}
-use mathlib.Core.Bool.{true, false}
-use Prim.Native.Nat.{_≤_}
-use native.Mathlib.Omega.{arith}
+use Rattle.suite.proofs.Giving.{sent}
+use Rattle.states.specs.Sessions.{storedWidth}
+use Rattle.machines.specs.ReaderWork.{sentBy}
+use Rattle.states.specs.ReaderStates.{readerFaceOf, readerSecretsOf}
 use lib.Dec.{eqb}
-use Rattle.bits.specs.Bytes.{bitsOfBytes}
-use Rattle.grain.proofs.Words.{width-small}
-use Rattle.suite.specs.Messages.{storedWidth}
-use Rattle.suite.specs.ReaderWork.{readerSent}
-use Rattle.suite.proofs.Replies.{sent-bits}
-use mathlib.Core.Path.{_≡_, sym, ap, _∙_}
-use mathlib.Core.Bool.{true, false}
-use Prim.Native.Nat.{_≤_}
 use native.Mathlib.Omega.{arith}
-use lib.Dec.{eqb}
-use Rattle.bits.specs.Bytes.{bitsOfBytes}
 use Rattle.grain.proofs.Words.{width-small}
-use Rattle.suite.specs.Messages.{storedWidth}
-use Rattle.suite.specs.ReaderWork.{readerSent}
-use Rattle.suite.proofs.Replies.{sent-bits}
 use borrow.Author.Needs.{needs}
 use Rattle.suite.proofs.reader_work.send.Statement.{statement}
 use Rattle.suite.proofs.reader_work.send.Tie as tie
+
+face-requires : tie.Need-face-requires
+face-requires c κs = search needs
+
+session-requires : tie.Need-session-requires
+session-requires c κs = search needs
 
 stored-width-requires : tie.Need-stored-width-requires
 stored-width-requires c κs = search needs
 
 send-requires : tie.Need-send-requires
-send-requires c κs = c .before .before .before .before .before .pre
+send-requires c κs = search needs
 
-moved-requires : tie.Need-moved-requires
-moved-requires c κs = search needs
+with-session-requires : tie.Need-with-session-requires
+with-session-requires c κs = search needs
 
-add-t15 : tie.Need-add-t15
-add-t15 c = search needs
+add-t16 : tie.Need-add-t16
+add-t16 c = let h = c .before .before .before .before .before .before .before .before .before .before .pre .1 .0 in omega arith
 
 bits-requires : tie.Need-bits-requires
 bits-requires c κs = search needs
 
-add-t17 : tie.Need-add-t17
-add-t17 c = let h : c .bits .result ≤ 64 = rw (c .bits .ensures) (width-small (c .before .before .before .before .before .before .stored-width .result) .1) in omega (arith, c .before .before .before .before .before .before .before .before .before .before .pre .1 .0)
+add-t18 : tie.Need-add-t18
+add-t18 c = let h = c .before .before .before .before .before .before .before .before .before .before .before .pre .1 .0 in rw (c .bits .ensures) (omega (arith, width-small (c .before .before .before .before .before .before .stored-width .result) .1))
 
 same-length : tie.Need-same-length
 same-length c = search needs
 
 returns : tie.Need-returns
-unfolding readerSent
+unfolding sentBy
 returns c =
-    let a = c .before .before .before .before .before .before .before .before .before .before .args in
-    let e = rw (c .before .before .before .before .before .before .stored-width .ensures) at (c .before .before .before .before .send .ensures) in
-    let n = sent-bits (storedWidth (a .r .width)) (eqb (a .kind) 2) (a .count) (a .«data» .now) (a .r .session) (c .before .before .before .before .before .before .before .before .before .before .pre .1 .1) in
-    record { step = rw (n, c .before .moved .ensures, e .0, c .bits .ensures, c .before .before .before .before .before .before .stored-width .ensures); reply = e .1 }
+    let a = c .before .before .before .before .before .before .before .before .before .before .before .args in
+    let v = storedWidth (readerFaceOf (a .r) .width) in
+    let e = rw (c .before .before .before .before .before .before .stored-width .ensures, c .before .before .before .before .before .before .before .session .ensures, c .before .before .before .before .before .before .before .before .face .ensures) at (c .before .before .before .before .send .ensures) in
+    rw (c .bits .ensures, c .before .with-session .ensures, c .before .before .before .before .before .before .stored-width .ensures, c .before .before .before .before .before .before .before .before .face .ensures, e .0)
+    (sent (λ s a n. record { next = record { state = s }; answer = a; bits = n }) v (eqb (a .kind) 2) (a .count) (a .«data» .now) (readerSecretsOf (a .r)) _ _ _ (c .before .before .before .before .before .before .before .before .before .before .before .pre .1 .1) (e .1))
 
 pub send-spec : {M : Type 1} → statement M
 send-spec =
     tie.close
     (tie.spec
+    face-requires
+    session-requires
     stored-width-requires
     send-requires
-    moved-requires
-    add-t15
+    with-session-requires
+    add-t16
     bits-requires
-    add-t17
+    add-t18
     same-length
     returns)

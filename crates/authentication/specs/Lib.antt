@@ -1,0 +1,2 @@
+-- What the contracts of `authentication` cite beside the definitions of `machines`.
+pub mod Outcomes

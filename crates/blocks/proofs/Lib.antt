@@ -1,0 +1,3 @@
+-- Laws of `blocks`.
+pub mod Numbers
+pub mod Back

@@ -1,0 +1,2 @@
+-- What the contracts of `blocks` cite.
+pub mod Blocks

@@ -1,0 +1,2 @@
+-- What the contract of `console` cites.
+pub mod Line

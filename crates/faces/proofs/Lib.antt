@@ -1,0 +1,2 @@
+-- The laws that proofs above cite.
+pub mod Fits

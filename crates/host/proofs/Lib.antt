@@ -1,0 +1,2 @@
+-- The laws that proofs here cite.
+mod Running

@@ -1,0 +1,2 @@
+-- What the contract of `host` cites.
+pub mod Kinds

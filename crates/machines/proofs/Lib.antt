@@ -1,0 +1,3 @@
+-- The laws that proofs above cite.
+pub mod TagSound
+pub mod ReaderSound

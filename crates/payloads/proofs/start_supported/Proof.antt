@@ -1,0 +1,13 @@
+-- `payloads::start_supported` meets its contract.
+use borrow.Author.Needs.{needs}
+use Rattle.payloads.proofs.start_supported.Statement.{statement}
+use Rattle.payloads.proofs.start_supported.Tie as tie
+
+supported-requires : tie.Need-supported-requires
+supported-requires c κs = search needs
+
+returns : tie.Need-returns
+returns c = rw (c .supported .ensures)
+
+pub start-supported-spec : {M : Type 1} → statement M
+start-supported-spec = tie.close (tie.spec supported-requires returns)

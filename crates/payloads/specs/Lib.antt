@@ -1,0 +1,3 @@
+-- What the contracts of `payloads` cite.
+pub mod Payloads
+pub mod Parts

@@ -1,0 +1,4 @@
+-- The laws that proofs here and above cite.
+pub mod Sessions
+pub mod TagStates
+pub mod ReaderStates
