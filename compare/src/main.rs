@@ -10,7 +10,7 @@ use compare::free;
 use compare::session::Session;
 
 const SEED: u64 = 2916713;
-const ROUNDS: u64 = 10_800;
+const ROUNDS: u64 = 3_600;
 const METHODS: u64 = 3;
 const OPTIONS: u64 = 4;
 const FREE_CALLS: usize = 50;
