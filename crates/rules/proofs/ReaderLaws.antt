@@ -1,54 +1,23 @@
 -- What a verdict on the reader's face tells: every check before the work has passed. Assumes nothing.
 use mathlib.Core.Path.{_≡_, sym, _∙_}
 use mathlib.Core.Bool.{Bool, true, not, _&&_, _||_, or-true}
-use Prim.Native.Nat.{ℕ, _*_, _≤_, _<_}
+use Prim.Native.Nat.{ℕ, _*_, _≤_}
 use lib.Dec.{ltb, eqb}
-use borrow.Author.Tests.{ltb-false, leb-false, not-false}
+use borrow.Author.Tests.{ltb-false, not-false}
 use Rattle.bits.proofs.Bools.{and-left, neither}
 use Rattle.payloads.specs.Payloads.{mac64}
 use Rattle.faces.specs.declared.ReaderFace.{ReaderFace}
-use Rattle.rules.specs.declared.ShownBegin.{ShownBegin}
 use Rattle.rules.specs.declared.ShownMessage.{ShownMessage}
-use Rattle.rules.specs.declared.ShownReply.{ShownReply}
 use Rattle.rules.specs.declared.Verdict.the-variants.{Go}
 use Rattle.faces.specs.ReaderFaces.{stageRow, readerFits}
-use Rattle.rules.specs.ReaderRules.{beginKeeping, beginClosing, beginVerdict, replyKeeping, replyClosing, replyVerdict, mayTalk, sendKeeping, sendClosing, sendVerdict, receiveKeeping, receiveClosing, receiveVerdict}
-use Rattle.faces.proofs.Fits.{sound-options, sound-method, full-width}
-use Rattle.rules.proofs.Verdicts.{Passed, passed, kept-goes}
+use Rattle.rules.specs.ReaderRules.{mayTalk, sendKeeping, sendClosing, sendVerdict, receiveKeeping, receiveClosing, receiveVerdict}
+use Rattle.faces.proofs.Fits.{full-width}
+use Rattle.rules.proofs.Verdicts.{Passed, passed}
 use Rattle.rules.proofs.TagLaws.{Receivable, receivable, Sendable, sendable}
 
 -- who may talk is open
 pub talking : (f : ReaderFace) (silent kind : ℕ) → mayTalk (stageRow (f .stage)) f silent kind ≡ true → stageRow (f .stage) .opened ≡ true
 talking f silent kind h = and-left _ _ (and-left (stageRow (f .stage) .opened && not (eqb (f .method) silent)) _ h)
-
--- ---- begin
-
--- there is room, and method and options have their few bits
-pub record Speakable (room m o : ℕ) : Type 0 where
-  pub roomy : 265 ≤ room
-  pub method : m < 3
-  pub options : o < 4
-
-module _ (f : ReaderFace) (p : ShownBegin) (e : beginVerdict f p ≡ Go) where
-  pub begin-passed : Passed (beginKeeping (stageRow (f .stage)) p) (beginClosing p)
-  unfolding beginVerdict
-  begin-passed = passed _ _ (kept-goes _ e)
-
-  pub begin-speakable : Speakable (p .room) (p .method) (p .options)
-  begin-speakable =
-      let c = begin-passed in
-      let s = neither _ _ (c .support) in
-      record { roomy = ltb-false _ _ (c .kept .buffer); method = leb-false _ _ (s .0); options = leb-false _ _ (s .1) }
-
--- ---- the authentication response
-
-module _ (f : ReaderFace) (p : ShownReply) (e : replyVerdict f p ≡ Go) where
-  pub reply-passed : Passed (replyKeeping (stageRow (f .stage)) p) (replyClosing (stageRow (f .stage)) f p)
-  unfolding replyVerdict
-  reply-passed = passed _ _ e
-
-  pub reply-speakable : readerFits f ≡ true → Speakable (p .room) (f .method) (f .options)
-  reply-speakable s = record { roomy = ltb-false _ _ (reply-passed .kept .buffer); method = sound-method f s; options = sound-options f s }
 
 -- ---- messages
 

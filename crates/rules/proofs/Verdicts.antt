@@ -149,11 +149,6 @@ kept-decides true (Refuse closes a) s closed work = rw cond-same
 kept-decides true Go s closed work = refl
 kept-decides false v s closed work = refl
 
-pub kept-goes : (v : Verdict) → kept v ≡ Go → v ≡ Go
-unfolding kept
-kept-goes (Refuse closes a) e = absurd (true≢false (ap refusesIn e))
-kept-goes Go e = refl
-
 -- where every check has passed, a sound state does the work
 pub works : {S : Type 0} (b : Bool) (k : Keeping) (c : Closing) (s closed : S) (work : Result S) → b ≡ true → Passed k c
     → decided (ifSound b (verdictOf k c)) s closed work ≡ work
