@@ -5,3 +5,4 @@ pub mod Loading
 pub mod Runs
 pub mod Messages
 pub mod Widths
+pub mod Back

@@ -16,7 +16,8 @@ use Rattle.grain.specs.Stored.{widthOf, macOf, sessionOf}
 use Rattle.grain.proofs.Words.{width-small}
 use Rattle.grain.proofs.Runs.{length-outs}
 
-abbrev Wide : ℕ → Mac → Type 0
+-- accumulator and shift register have their w bits
+abbrev pub Wide : ℕ → Mac → Type 0
 Wide w x = (length (x .acc) ≡ w) × (length (x .reg) ≡ w)
 
 length-sums : (xs ys : List Bool) → length xs ≡ length ys → length (sums xs ys) ≡ length xs
@@ -35,6 +36,14 @@ unfolding absorbed
 wide-absorbed w h [] x k = k
 wide-absorbed w h (m ∷ ms) x k = wide-absorbed w h ms (taken m x) (wide-taken w h m x k)
 
+pub wide-filled : (w : ℕ) (st : State) → Wide w (filled w st)
+unfolding filled
+wide-filled w st = (length-outs _ _, length-outs _ _)
+
+pub wide-authenticated : (w : ℕ) → 0 < w → (ms : List Bool) (x : Mac) → Wide w x → Wide w (authenticated ms x)
+unfolding authenticated
+wide-authenticated w h ms x k = wide-taken w h padding _ (wide-absorbed w h ms x k)
+
 -- so both numbers fit
 pub record Fits (w : ℕ) (x : Session) : Type 0 where
   pub acc : x .acc < 2 ^ w
@@ -43,16 +52,13 @@ pub record Fits (w : ℕ) (x : Session) : Type 0 where
 number-fits : (w : ℕ) (l : List Bool) → length l ≡ w → numOf l < 2 ^ w
 number-fits w l e = rw e at (numOf-lt l)
 
-wide-fits : (w : ℕ) (x : Mac) → Wide w x → Fits w (sessionOf x)
+pub wide-fits : (w : ℕ) (x : Mac) → Wide w x → Fits w (sessionOf x)
 unfolding sessionOf
 wide-fits w x (a, r) = record { acc = number-fits w (x .acc) a; reg = number-fits w (x .reg) r }
 
 pub filled-fits : (v : Width) (st : State) → Fits (widthOf v) (sessionOf (filled (widthOf v) st))
-unfolding filled
-filled-fits v st = wide-fits (widthOf v) _ (length-outs _ _, length-outs _ _)
+filled-fits v st = wide-fits (widthOf v) _ (wide-filled _ st)
 
 pub message-fits : (v : Width) (ms : List Bool) (x : Session) → Fits (widthOf v) (sessionOf (authenticated ms (macOf (widthOf v) x)))
-unfolding authenticated macOf
-message-fits v ms x =
-    let h = width-small v .0 in
-    wide-fits (widthOf v) _ (wide-taken _ h padding _ (wide-absorbed _ h ms _ (length-bitsOf _ _, length-bitsOf _ _)))
+unfolding macOf
+message-fits v ms x = wide-fits (widthOf v) _ (wide-authenticated _ (width-small v .0) ms _ (length-bitsOf _ _, length-bitsOf _ _))
