@@ -1,5 +1,4 @@
--- The idle and the closed reader are sound; begin, an authentication response and a message leave a sound reader sound, and no
--- call answers 8 to one. Assumes nothing.
+-- The idle and the closed reader are sound; begin, an authentication response and a message leave a sound reader sound. Assumes nothing.
 use mathlib.Core.Path.{_≡_, refl, ap}
 use mathlib.Core.Bool.{Bool, true, false, not, cond, _&&_, _||_, or-assoc, or-true}
 use mathlib.Core.List.{List}
@@ -12,7 +11,6 @@ use Rattle.grain.specs.declared.Engine.{Engine}
 use Rattle.grain.specs.declared.Session.{Session}
 use Rattle.grain.specs.Stored.{widthOf}
 use Rattle.payloads.specs.Payloads.{mac64, macBits, tagNumberIn, statusIn, numberLimit}
-use Rattle.rules.specs.declared.Answer.the-variants.{BadState}
 use Rattle.faces.specs.declared.ReaderFace.{ReaderFace}
 use Rattle.rules.specs.declared.ReplyWork.the-variants.{Compare, Answer, Fail, Accept, Confirm}
 use Rattle.faces.specs.declared.Stage.{Stage}
@@ -25,7 +23,7 @@ use Rattle.faces.proofs.Fits.{sound-options, sound-method, sound-number, sound-
 use Rattle.rules.proofs.Verdicts.{kept-decides}
 use Rattle.rules.proofs.ReaderLaws.{talking}
 use Rattle.rules.proofs.Soundness as Soundness
-use Rattle.rules.proofs.Soundness.{done-good, compared-good, decided-good, good-not-8}
+use Rattle.rules.proofs.Soundness.{compared-good, decided-good}
 use Rattle.states.specs.declared.reader.ReaderState.{ReaderState}
 use Rattle.states.specs.Sessions.{chosenWidth, storedWidth, begunEngine, withEngine, afterMessage, sentSession, wordsFit, sessionFits}
 use Rattle.states.specs.ReaderStates.{readerFaceOf, readerSecretsOf, readerOf, readerSound, begunReaderFace, movedFace, resetReader, closedReader, begunReader, filledReader, openedReader, withReaderSession}
@@ -53,8 +51,8 @@ Good = Soundness.Good readerSound
 -- a comparison, which opens or closes
 matched-good : (same : Bool) (next : ReaderState) → readerSound next ≡ true → Good (said (matched same next))
 unfolding matched
-matched-good true next h = done-good readerSound _ _ h
-matched-good false next h = record { state = reader-closed-sound; answer = refl }
+matched-good true next h = h
+matched-good false next h = reader-closed-sound
 
 -- ---- the states that follow a sound one
 
@@ -116,9 +114,9 @@ module _ (r : ReaderState) (s : readerSound r ≡ true) where
       → (a b d g : Bool) → stageRow (f .stage) .asked ≡ a → eqb (f .method) 0 ≡ b → Good (said (answeredBy (cond a (cond b Compare Answer) (cond d Fail (cond g Accept Confirm))) r l))
   unfolding answeredBy compareOf answerOf confirmOf
   work-good l waits true true d g h k = matched-good _ _ (filled-sound true l _ refl)
-  work-good l waits true false d g h k = done-good readerSound _ _ (filled-sound false l _ (ap not k))
-  work-good l waits false b true g h k = record { state = reader-closed-sound; answer = refl }
-  work-good l waits false b false true h k = done-good readerSound _ _ (opened-sound (rw h at waits) (readerSecretsOf r .engine))
+  work-good l waits true false d g h k = filled-sound false l _ (ap not k)
+  work-good l waits false b true g h k = reader-closed-sound
+  work-good l waits false b false true h k = opened-sound (rw h at waits) (readerSecretsOf r .engine)
   work-good l waits false b false false h k = matched-good _ _ (opened-sound (rw h at waits) _)
 
   -- ---- the calls
@@ -129,10 +127,9 @@ module _ (r : ReaderState) (s : readerSound r ≡ true) where
       rw kept-decides
       (decided-good readerSound _ _ r r _ s s
       (λ c. let support = neither _ _ (c .support) in
-      done-good readerSound _ _
-      (parts-sound (begunReaderFace (i .method) (i .options) (i .keyid) (i .number)) _
+      parts-sound (begunReaderFace (i .method) (i .options) (i .keyid) (i .number)) _
       (rw (lt-ltb (i .options) 4 (leb-false _ _ (support .1)), lt-ltb (i .method) 3 (leb-false _ _ (support .0)), lt-ltb (i .number) numberLimit (leb-false _ _ (c .kept .argument))))
-      refl)))
+      refl))
 
   replied-good : (payload : List ℕ) (count room : ℕ) → Good (repliedOf r payload count room)
   unfolding repliedOf replyVerdict replyWork
@@ -144,7 +141,7 @@ module _ (r : ReaderState) (s : readerSound r ≡ true) where
   unfolding sendingOf sendVerdict sentBy sentSession
   sending-good m room =
       decided-good readerSound _ _ r closedReader _ s reader-closed-sound
-      (λ c. done-good readerSound _ _ (message-sound _ (talking f 0 (m .kind) (not-false _ (c .kept .work)))))
+      (λ c. message-sound _ (talking f 0 (m .kind) (not-false _ (c .kept .work))))
 
   receiving-good : (m : Message) (room : ℕ) → Good (receivingOf r m room)
   unfolding receivingOf receiveVerdict receivedBy
@@ -155,25 +152,13 @@ module _ (r : ReaderState) (s : readerSound r ≡ true) where
 -- ---- the laws
 
 pub begin-sound : (r : ReaderState) (i : Begin) (room : ℕ) → readerSound r ≡ true → readerSound (beginOf r i room .next) ≡ true
-begin-sound r i room s = begin-good r s i room .state
+begin-sound r i room s = begin-good r s i room
 
 pub replied-sound : (r : ReaderState) (payload : List ℕ) (count room : ℕ) → readerSound r ≡ true → readerSound (repliedOf r payload count room .next) ≡ true
-replied-sound r payload count room s = replied-good r s payload count room .state
+replied-sound r payload count room s = replied-good r s payload count room
 
 pub sending-sound : (r : ReaderState) (m : Message) (room : ℕ) → readerSound r ≡ true → readerSound (sendingOf r m room .next) ≡ true
-sending-sound r m room s = sending-good r s m room .state
+sending-sound r m room s = sending-good r s m room
 
 pub receiving-sound : (r : ReaderState) (m : Message) (room : ℕ) → readerSound r ≡ true → readerSound (receivingOf r m room .next) ≡ true
-receiving-sound r m room s = receiving-good r s m room .state
-
-pub begin-not-8 : (r : ReaderState) (i : Begin) (room : ℕ) → readerSound r ≡ true → beginOf r i room .answer ≡ BadState → ⊥
-begin-not-8 r i room s = good-not-8 readerSound _ (begin-good r s i room)
-
-pub replied-not-8 : (r : ReaderState) (payload : List ℕ) (count room : ℕ) → readerSound r ≡ true → repliedOf r payload count room .answer ≡ BadState → ⊥
-replied-not-8 r payload count room s = good-not-8 readerSound _ (replied-good r s payload count room)
-
-pub sending-not-8 : (r : ReaderState) (m : Message) (room : ℕ) → readerSound r ≡ true → sendingOf r m room .answer ≡ BadState → ⊥
-sending-not-8 r m room s = good-not-8 readerSound _ (sending-good r s m room)
-
-pub receiving-not-8 : (r : ReaderState) (m : Message) (room : ℕ) → readerSound r ≡ true → receivingOf r m room .answer ≡ BadState → ⊥
-receiving-not-8 r m room s = good-not-8 readerSound _ (receiving-good r s m room)
+receiving-sound r m room s = receiving-good r s m room

@@ -1,4 +1,4 @@
--- The reset tag is sound; closing, a command and a response leave a sound tag sound, and neither call answers 8 to one. Assumes nothing.
+-- The reset tag is sound; closing, a command and a response leave a sound tag sound. Assumes nothing.
 use mathlib.Core.Path.{_≡_, refl, sym, _∙_}
 use mathlib.Core.Bool.{Bool, true, false, not, cond, Bool·beq, _&&_, _||_, true≢false, and-false, or-true}
 use mathlib.Core.List.{List}
@@ -14,7 +14,6 @@ use Rattle.grain.specs.declared.Method.the-variants.{Ta, Ia, Ma}
 use Rattle.grain.specs.declared.Session.{Session}
 use Rattle.grain.specs.Stored.{widthOf}
 use Rattle.payloads.specs.Payloads.{mac64, macBits, supports, supportsStart}
-use Rattle.rules.specs.declared.Answer.the-variants.{BadState}
 use Rattle.faces.specs.declared.Face.{Face}
 use Rattle.faces.specs.declared.Name.{Name}
 use Rattle.faces.specs.declared.Name.the-variants.{CsReset, Ta1, Ia1, Ia2, Ma1, Ma2}
@@ -28,7 +27,7 @@ use Rattle.rules.proofs.Verdicts.{Passed}
 use Rattle.faces.proofs.Fits.{flags-fit, open-width, responds-filled}
 use Rattle.rules.proofs.TagLaws.{filled-row}
 use Rattle.rules.proofs.Soundness as Soundness
-use Rattle.rules.proofs.Soundness.{done-good, compared-good, decided-good, good-not-8}
+use Rattle.rules.proofs.Soundness.{compared-good, decided-good}
 use Rattle.states.specs.declared.tag.TagState.{TagState}
 use Rattle.states.specs.Sessions.{chosenWidth, storedWidth, filledSession, afterMessage, sentSession, wordsFit, sessionFits}
 use Rattle.states.specs.TagStates.{faceOf, secretsOf, tagOf, soundOf, closedFace, openBy, resetTag, closedTag, failedTag, begunTag, openTag, withSession}
@@ -111,7 +110,7 @@ message-sound t ms s full well =
     let words : wordsFit (f .width) x ≡ true = rw size at (message-fits v ms (secretsOf t)) in
     parts-sound f x (face-sound t s) (rw (words, filled-old (f .name) full, well))
 
--- ---- results whose state is sound and whose answer is not 8
+-- ---- results whose state is sound
 
 abbrev Good : Result TagState → Type 0
 Good = Soundness.Good soundOf
@@ -132,13 +131,13 @@ filled-words o e = rw (width-chosen o) at (filled-fits (chosenWidth o) e)
 start-good : (m k o f n : ℕ) (e : Engine) → ltb o 4 ≡ true → Good (said (startedBy m k o f n e))
 unfolding startedBy
 start-good m k o f n e small =
-    either (λ o. Good (said o)) (eqb m 0) _ _ (done-good soundOf _ _ (open-sound k o _ small (filled-words o e) Ta)) (done-good soundOf _ _ (begun-sound (not (eqb m 1)) k e))
+    either (λ o. Good (said o)) (eqb m 0) _ _ (open-sound k o _ small (filled-words o e) Ta) (begun-sound (not (eqb m 1)) k e)
 
 prove-good : (both same : Bool) (k o : ℕ) (e : Engine) (x : Session) → ltb o 4 ≡ true → wordsFit (macBits o) x ≡ true → Good (said (provedBy both same k o e x))
 unfolding provedBy
-prove-good both false k o e x small words = record { state = failed-sound both; answer = refl }
-prove-good true true k o e x small words = done-good soundOf _ _ (open-sound k o _ small words Ma)
-prove-good false true k o e x small words = done-good soundOf _ _ (open-sound k o _ small words Ia)
+prove-good both false k o e x small words = failed-sound both
+prove-good true true k o e x small words = open-sound k o _ small words Ma
+prove-good false true k o e x small words = open-sound k o _ small words Ia
 
 -- ---- the calls
 
@@ -171,18 +170,12 @@ module _ (t : TagState) (s : soundOf t ≡ true) where
   unfolding responseOf responseVerdict sendOf sentSession
   response-good m room =
       decided-good soundOf _ _ t (closedTag t) _ s (close-sound t s)
-      (λ c. done-good soundOf _ _ (message-sound t _ s (responds-filled (f .name) (not-false _ (c .kept .work))) (c .kept .error)))
+      (λ c. message-sound t _ s (responds-filled (f .name) (not-false _ (c .kept .work))) (c .kept .error))
 
 -- ---- the laws
 
 pub command-sound : (t : TagState) (c : Command) (room : ℕ) → soundOf t ≡ true → soundOf (commandOf t c room .next) ≡ true
-command-sound t c room s = command-good t s c room .state
+command-sound t c room s = command-good t s c room
 
 pub response-sound : (t : TagState) (m : Message) (room : ℕ) → soundOf t ≡ true → soundOf (responseOf t m room .next) ≡ true
-response-sound t m room s = response-good t s m room .state
-
-pub command-not-8 : (t : TagState) (c : Command) (room : ℕ) → soundOf t ≡ true → commandOf t c room .answer ≡ BadState → ⊥
-command-not-8 t c room s = good-not-8 soundOf _ (command-good t s c room)
-
-pub response-not-8 : (t : TagState) (m : Message) (room : ℕ) → soundOf t ≡ true → responseOf t m room .answer ≡ BadState → ⊥
-response-not-8 t m room s = good-not-8 soundOf _ (response-good t s m room)
+response-sound t m room s = response-good t s m room

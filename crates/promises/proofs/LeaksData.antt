@@ -7,7 +7,7 @@ use native.Mathlib.Omega.{arith}
 use lib.ListN.{take, getD, replicate}
 use borrow.Author.Tests.{ne-eqb, eq-eqb, eqb-true}
 use Rattle.bits.specs.Area.{shown}
-use Rattle.bits.specs.Bits.{bitsOf, digit, num, numOf, _⊕_}
+use Rattle.bits.specs.Bits.{bitsOf, digit, numOf, num, _⊕_}
 use Rattle.bits.specs.Bytes.{bitsOfBytes, bytesOf, padded, fieldOf}
 use Rattle.bits.proofs.Bytes.{bits-back}
 use Rattle.bits.proofs.Fields.{field-skip, field-whole}
@@ -21,48 +21,41 @@ use Rattle.grain.specs.Stored as Stored
 use Rattle.grain.proofs.Runs.{length-keystream}
 use Rattle.book.specs.Book as Book
 use Rattle.payloads.specs.Payloads.{optionsIn, readerKeystreamIn, zerosOf}
-use Rattle.faces.specs.TagFaces.{faceFits}
 use Rattle.rules.specs.declared.Answer.the-variants.{Mismatch}
 use Rattle.rules.specs.declared.Verdict.the-variants.{Go}
-use Rattle.rules.specs.Answers.{verdictOf, closingOf, ifSound}
+use Rattle.rules.specs.Answers.{verdictOf, closingOf}
 use Rattle.rules.specs.Calls.{Command}
-use Rattle.rules.specs.Results.{refusedBy, comparedBy, said, decided}
-use Rattle.rules.specs.TagRules.{keyUnder, shownOf, commandVerdict, commandWork}
+use Rattle.rules.specs.Results.{said, decided, refusedBy, comparedBy}
+use Rattle.rules.specs.TagRules.{shownOf, commandVerdict, commandWork}
 use Rattle.rules.proofs.Verdicts.{soundly}
 use Rattle.states.specs.declared.tag.TagState.{TagState}
-use Rattle.states.specs.Sessions.{keyIn, begunEngine, filledSession, nextKeystream, withEngine, afterMessage, dataOf, sameMac, sessionFits}
-use Rattle.states.specs.TagStates.{faceOf, secretsOf, tagOf, soundOf, begunFace, openBy, resetTag, closedTag, begunTag, openTag}
+use Rattle.states.specs.Sessions.{filledSession, nextKeystream, withEngine, afterMessage, dataOf, sameMac}
+use Rattle.states.specs.TagStates.{soundOf, begunFace, begunTag, openBy, closedTag, openTag}
 use Rattle.states.proofs.Sessions.{filled-fits}
 use Rattle.states.proofs.TagStates.{face-begun, secrets-begun, face-open, secrets-open}
-use Rattle.machines.specs.TagWork.{challenged, mutuallyProved, commandOf, carriedOf, workedOf, startOf, startedBy, proveOf, provedBy, receiveOf}
+use Rattle.machines.specs.TagWork.{commandOf, carriedOf, workedOf, proveOf, provedBy, mutuallyProved, receiveOf}
 use Rattle.machines.proofs.TagSound.{begun-sound, open-sound}
 use Rattle.promises.specs.Silence.{Silent}
 use Rattle.promises.specs.Demand3 as Demand3
-use Rattle.promises.specs.Demand3.{AlikeCommands, resets, commands, Demand3}
-use Rattle.promises.specs.Wrong.{leavesDecrypted}
-use Rattle.promises.proofs.Refuted.{book, buffer}
-use Rattle.promises.proofs.Leaks.{called, call, alike-but, same-alike}
+use Rattle.promises.specs.Demand3.{AlikeCommands, commands, Demand3}
+use Rattle.promises.specs.Leaky.{leavesDecrypted}
+use Rattle.promises.proofs.Comparisons.{order-of}
+use Rattle.promises.proofs.LeakRuns.{buffer, called, call, alike-but, alike-keys, from-reset, opening, engine, opens}
 
 -- ---- MA up to the open tag, with secure messages and a MAC of 32 bits
 
-abbrev opening : Command
-opening = called (128 ∷ 5 ∷ replicate 6 0) 64
-
-abbrev engine : Engine
-engine = begunEngine (keyIn (Book.keyOf 5 book)) 2 0 0
-
 abbrev filled : Session
-filled = filledSession Mac32 engine
+filled = filledSession Mac32 (engine Ma 0)
 
 -- the keystream that is asked for: it is never computed here
 abbrev word : ℕ
 word = nextKeystream (filled .engine) .word
 
 abbrev proof : Command
-proof = called (146 ∷ 5 ∷ bytesOf 8 (bitsOf 64 word)) 80
+proof = called 31 0 0 (146 ∷ 5 ∷ bytesOf 8 (bitsOf 64 word)) 80
 
 abbrev asked : TagState
-asked = begunTag true 5 engine
+asked = begunTag true 5 (engine Ma 0)
 
 abbrev later : Engine
 later = nextKeystream (filled .engine) .engine
@@ -74,14 +67,9 @@ spoken = withEngine filled (nextKeystream later .engine)
 abbrev ready : TagState
 ready = openTag Ma 5 2 spoken
 
-opens : commandOf resetTag opening 265 ≡ said (challenged true 5 31 0 engine)
-unfolding commandOf ifSound carriedOf decided commandVerdict commandWork workedOf startOf startedBy shownOf keyUnder verdictOf closingOf
-    soundOf faceFits sessionFits faceOf secretsOf tagOf resetTag Book.soundOf Book.knownOf Book.idsOf Book.keyIds Book.placeIn Book.rising
-    bitsOfBytes bitsOf digit numOf padded fieldOf
-opens = refl
-
 proving : commandVerdict (begunFace true 5) (shownOf 0 proof 265) ≡ Go
-unfolding commandVerdict shownOf verdictOf closingOf Book.soundOf Book.idsOf Book.keyIds Book.rising bitsOfBytes bytesOf bitsOf digit numOf padded fieldOf
+unfolding commandVerdict shownOf verdictOf closingOf Book.soundOf Book.idsOf Book.keyIds Book.rising
+    bitsOfBytes bytesOf bitsOf digit numOf padded fieldOf
 proving = refl
 
 secure-options : optionsIn (bitsOfBytes (proof .payload)) ≡ 2
@@ -104,19 +92,12 @@ compared = rw (face-begun, secrets-begun, secure-options, word-asked, eq-eqb wor
 
 proves : commandOf asked proof 265 ≡ said (mutuallyProved 5 2 later filled)
 unfolding commandOf carriedOf decided commandWork workedOf shownOf
-proves = rw (soundly (soundOf asked) _ (begun-sound true 5 engine), face-begun, proving) compared
+proves = rw (soundly (soundOf asked) _ (begun-sound true 5 (engine Ma 0)), face-begun, proving) compared
 
 -- ---- secure messages of one data bit a, eight zeros, and a MAC whose first bit is m and whose others are 0
 
 abbrev secret : Bool → Bool → Command
-secret a m = record {
-  kind = 2;
-  payload = num a * 128 ∷ num m * 64 ∷ replicate 4 0;
-  count = 41;
-  features = 31;
-  book = book;
-  number = 0;
-}
+secret a m = called 31 0 2 (num a * 128 ∷ num m * 64 ∷ replicate 4 0) 41
 
 abbrev bits : Bool → Bool → List Bool
 bits a m = bitsOfBytes (secret a m .payload)
@@ -141,7 +122,7 @@ mac-bit false true = refl
 mac-bit false false = refl
 
 ready-sound : soundOf ready ≡ true
-ready-sound = open-sound 5 2 spoken refl (filled-fits Mac32 engine) Ma
+ready-sound = open-sound 5 2 spoken refl (filled-fits Mac32 (engine Ma 0)) Ma
 
 receiving : (a m : Bool) → commandVerdict (openBy Ma 5 2) (shownOf 32 (secret a m) 265) ≡ Go
 unfolding commandVerdict shownOf verdictOf closingOf Book.soundOf Book.idsOf Book.keyIds Book.rising
@@ -168,20 +149,22 @@ mismatch a m e = rw (soundly (soundOf ready) _ ready-sound, face-open, receiving
 alike-secrets : (m n : Bool) → AlikeCommands 32 (secret false m) (secret true n) buffer buffer
 unfolding zerosOf
 alike-secrets m n =
-    alike-but 32 (secret false m) (secret true n .payload) buffer refl (λ k. absurd (omega (arith, k)))
+    alike-but 32 31 0 0 2 _ _ 41 refl (λ k. absurd (omega (arith, k)))
     (λ k p q. eqb-true _ _ (zeros-are false m) ∙ sym (eqb-true _ _ (zeros-are true n)))
 
 abbrev left : Bool → List ℕ
 left a = shown (dataOf Mac32 true (a ∷ []) spoken) buffer
 
-both : Demand3 leavesDecrypted → (m n : Bool) → digit 31 (right false) ≡ not m → digit 31 (right true) ≡ not n → take 265 (left false) ≡ take 265 (left true)
+both : Demand3 leavesDecrypted → (m n : Bool) → digit 31 (right false) ≡ not m → digit 31 (right true) ≡ not n
+    → take 265 (left false) ≡ take 265 (left true)
 unfolding Silent
 both d m n u v =
-    let calls : List (Demand3.Call × Demand3.Call) = (call opening, call opening) ∷ (call proof, call proof) ∷ (call (secret false m), call (secret true n)) ∷ [] in
-    let h = d resetTag resetTag (Demand3.reset []) (Demand3.reset []) refl (resets refl) calls (commands (same-alike _ opening buffer)) .1 in
-    let k = (rw (opens, face-begun) at h) (commands (same-alike _ proof buffer)) .1 in
+    let calls : List (Demand3.Call × Demand3.Call)
+    = (call (opening Ma 0), call (opening Ma 0)) ∷ (call proof, call proof) ∷ (call (secret false m), call (secret true n)) ∷ [] in
+    let h = from-reset _ d calls (commands (alike-keys _ 0 0 0 0 _ 64)) .1 in
+    let k = (rw (opens Ma 0, face-begun) at h) (commands (alike-keys _ 31 0 0 0 _ 80)) .1 in
     let p = (rw (proves, face-open, secrets-open) at k) (commands (alike-secrets m n)) .0 in
-    let q = (rw (mismatch false m u, mismatch true n v) at p) .1 .area in
+    let q = (rw (mismatch false m u, mismatch true n v, order-of (openBy Ma 5 2) (secret false m) 265 Go (receiving false m)) at p) .1 .area in
     rw (data-bit false m, data-bit true n) at q
 
 -- they differ in their first bit, whatever was added to it

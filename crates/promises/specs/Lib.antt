@@ -1,8 +1,19 @@
--- The demands, as statements over any machine, the machines that they are proved of, and wrong tags that they refuse.
+-- The demands, as statements over any machine, the machines that they are proved of, and wrong ones that they refuse.
 pub mod Machines
 pub mod Ours
+pub mod Order
+pub mod TagTable
+pub mod ReaderTable
 pub mod Demand1
+pub mod Settings
+pub mod Transcript
 pub mod Demand2
 pub mod Silence
 pub mod Demand3
+pub mod Demands
+pub mod Leaky
 pub mod Wrong
+pub mod WrongReaders
+pub mod WrongRules
+pub mod Audited
+pub mod AuditedReaders

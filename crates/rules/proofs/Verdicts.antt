@@ -1,7 +1,6 @@
 -- What the one order says, and what both machines then do. Assumes nothing.
 use mathlib.Core.Path.{_≡_, refl, sym, ap, _∙_}
-use mathlib.Core.Bool.{Bool, true, false, not, cond, _&&_, _||_, true≢false}
-use Prim.Native.Nat.{ℕ}
+use mathlib.Core.Bool.{Bool, true, false, not, cond, _||_, true≢false}
 use lib.Dec.{eqb}
 use Rattle.bits.proofs.Bools.{neither, of-cond, cond-same}
 use Rattle.rules.specs.declared.Answer.{Answer}
@@ -75,25 +74,19 @@ module _ (k : Keeping) (c : Closing) where
 
 -- ---- the numbers that the order says
 
--- neither 0 nor 8 nor 10: these are said elsewhere
+-- neither 0 nor 10: these are said elsewhere
 pub record Plain (a : Answer) : Type 0 where
   pub zero : eqb (numberOf a) 0 ≡ false
-  pub eight : eqb (numberOf a) 8 ≡ false
   pub ten : eqb (numberOf a) 10 ≡ false
 
 abbrev special : Answer → Bool
-special a = eqb (numberOf a) 0 || (eqb (numberOf a) 8 || eqb (numberOf a) 10)
+special a = eqb (numberOf a) 0 || eqb (numberOf a) 10
 
 plain : (a : Answer) → special a ≡ false → Plain a
-plain a e = let h = neither _ _ e in let g = neither _ _ (h .1) in record { zero = h .0; eight = g .0; ten = g .1 }
+plain a e = let h = neither _ _ e in record { zero = h .0; ten = h .1 }
 
--- the refusals that the table marks "kept"
-abbrev pub keeps : ℕ → Bool
-keeps n = eqb n 1 || eqb n 2 || eqb n 7 || eqb n 8 || eqb n 9 || eqb n 11
-
--- and what closes has a number that is not kept
 abbrev odd : Verdict → Bool
-odd (Refuse closes a) = special a || (closes && keeps (numberOf a))
+odd (Refuse closes a) = special a
 odd Go = false
 
 never-odd : (k : Keeping) (c : Closing) → odd (verdictOf k c) ≡ false
@@ -102,26 +95,21 @@ never-odd k c = simp (of-cond odd, cond-same)
 
 -- what holds of each verdict holds of what the order says
 pub by-order : (P : Verdict → Type 0) (k : Keeping) (c : Closing) → ((a : Answer) → Plain a → P (keep a))
-    → ((a : Answer) → Plain a → keeps (numberOf a) ≡ false → Kept k → P (close a)) → (Passed k c → P Go) → P (verdictOf k c)
+    → ((a : Answer) → Plain a → Kept k → P (close a)) → (Passed k c → P Go) → P (verdictOf k c)
 by-order P k c kept closed go = at (verdictOf k c) refl (never-odd k c)
   where
     at : (v : Verdict) → verdictOf k c ≡ v → odd v ≡ false → P v
-    at (Refuse false a) e n = kept a (plain a (neither _ _ n .0))
-    at (Refuse true a) e n = let h = neither _ _ n in closed a (plain a (h .0)) (h .1) (unkept k c (ap keepsIn e))
+    at (Refuse false a) e n = kept a (plain a n)
+    at (Refuse true a) e n = closed a (plain a n) (unkept k c (ap keepsIn e))
     at Go e n = go (passed k c e)
 
 -- ---- what both machines then do
 
 -- what holds of each outcome holds of what is decided
 pub by-decided : {S : Type 0} (G : Result S → Type 0) (k : Keeping) (c : Closing) (s closed : S) (work : Result S) → ((a : Answer) → Plain a → G (refusedBy s a))
-    → ((a : Answer) → Plain a → keeps (numberOf a) ≡ false → Kept k → G (refusedBy closed a)) → (Passed k c → G work) → G (decided (verdictOf k c) s closed work)
+    → ((a : Answer) → Plain a → Kept k → G (refusedBy closed a)) → (Passed k c → G work) → G (decided (verdictOf k c) s closed work)
 unfolding decided
 by-decided G k c s closed work kept shut go = by-order (λ (v : Verdict). G (decided v s closed work)) k c kept shut go
-
--- a check that keeps, wherever it stands, keeps the state
-pub stays : {S : Type 0} (k : Keeping) (c : Closing) (s closed : S) (work : Result S) → (Kept k → ⊥) → decided (verdictOf k c) s closed work .next ≡ s
-stays k c s closed work none =
-    by-decided (λ r. r .next ≡ s) k c s closed work (λ a n. refl) (λ a n h p. absurd (none p)) (λ p. absurd (none (p .kept)))
 
 -- ---- 8
 
