@@ -1,168 +1,164 @@
 -- Every public function of the cellar, by its own name: two outcomes that meet its contract are equal. Each contract is an equation
 -- with a definition of specs/ for the result, and one for each lent memory; the two laws below are the whole argument. Assumes nothing.
-use mathlib.Core.Path.{_≡_, sym, ap₂, _∙_}
-use mathlib.Core.Bool.{Bool, false}
-use mathlib.Core.List.{List, []}
-use Prim.Native.Nat.{ℕ, _-_}
-use lib.ListN.{length, getD, take, set}
-use lib.Seq.{sets}
-use Rattle.bits.specs.Bits.{bitsOf}
-use Rattle.bits.specs.Bytes.{bitsOfBytes, bytesOf, fieldOf, wordBits}
-use Rattle.bits.specs.Area.{shown}
-use Rattle.text.specs.Text.{Writes, decimalOf, hexOf, spacedOf, replyOf}
-use Rattle.console.specs.Line.{ended}
-use Rattle.counts.specs.declared.Checked.{Checked}
-use Rattle.counts.specs.declared.Counted.{Counted}
-use Rattle.counts.specs.declared.Refusal.{Refusal}
-use Rattle.counts.specs.Count.{countAt, countBytes}
-use Rattle.counts.specs.Payload.{sizeOf, checkOf}
-use Rattle.counts.specs.Refusal as Refusals
-use Rattle.book.specs.Book as Book
-use Rattle.frames.specs.declared.Scanned.{Scanned}
-use Rattle.frames.specs.declared.Written.{Written}
-use Rattle.frames.specs.Frame as Frames
-use Rattle.payloads.specs.declared.Fields.{Fields}
-use Rattle.payloads.specs.declared.Payload.{Payload}
-use Rattle.payloads.specs.Payloads as Payloads
-use Rattle.determined.specs.Determined.{Determines}
+use mathlib.Core.Path.{_≡_, refl, sym, ap, ap₂, _∙_}
+use mathlib.Core.List.{List}
+use Prim.Native.Nat.{ℕ, zero, suc}
+use Rattle.bits.proofs as Bits
+use Rattle.text.proofs as Text
+use Rattle.text.specs.Text.{Writes}
+use Rattle.console.proofs as Console
+use Rattle.counts.proofs as Counts
+use Rattle.book.proofs as Book
+use Rattle.frames.proofs as Frames
+use Rattle.payloads.proofs as Payloads
+use Rattle.determined.specs.Determined.{Determines, DeterminesShown}
 
--- ---- the argument: what is equal to one thing is equal, part by part
+-- ---- the argument: what is equal to one thing is equal, part by part; `refl` for parameters that lend nothing
 
-pub value : {A : Type 0} (e : A) → Determines (λ (x : A). x ≡ e)
-value e x y p q = p ∙ sym q
+pub part : {A B : Type 0} {x y : A × B} {e : A} → x .0 ≡ e → y .0 ≡ e → x .1 ≡ y .1 → x ≡ y
+part p q r = ap₂ (λ a b. (a, b)) (p ∙ sym q) r
 
-pub both : {A B : Type 0} (e : A) (f : B) → Determines (λ (x : A × B). (x .0 ≡ e) × (x .1 ≡ f))
-both e f x y p q = ap₂ (λ a b. (a, b)) (p .0 ∙ sym (q .0)) (p .1 ∙ sym (q .1))
+-- n parameters that lend nothing, before others
+abbrev pub Past : ℕ → Type 0 → Type 0
+Past zero B = B
+Past (suc n) B = Unit {0} × Past n B
+
+abbrev pub after : (n : ℕ) (B : Type 0) → Past n B → B
+after zero B x = x
+after (suc n) B x = after n B (x .1)
+
+pub past : (n : ℕ) (B : Type 0) {x y : Past n B} → after n B x ≡ after n B y → x ≡ y
+past zero B e = e
+past (suc n) B e = ap (λ b. (tt, b)) (past n B e)
 
 -- ---- bits
 
-pub byte-at : (s : List ℕ) (i : ℕ) → Determines (λ (r : ℕ). r ≡ getD s i 0)
-byte-at s i = value _
+pub byte-at : Determines Bits.byte_at.ended Bits.byte_at.Reads.Post
+byte-at κs a x y p q = part p q refl
 
-pub bit-at : (s : List ℕ) (i : ℕ) → Determines (λ (r : Bool). r ≡ getD (bitsOfBytes s) i false)
-bit-at s i = value _
+pub bit-at : Determines Bits.bit_at.ended Bits.bit_at.Reads.Post
+bit-at κs a x y p q = part p q refl
 
-pub bits-in : (s : List ℕ) (count : ℕ) → Determines (λ (r : ℕ). r ≡ length (take count (bitsOfBytes s)))
-bits-in s count = value _
+pub bits-in : Determines Bits.bits_in.ended Bits.bits_in.Reads.Post
+bits-in κs a x y p q = part p q refl
 
-pub word-bits : (w : ℕ) → Determines (λ (r : ℕ). r ≡ wordBits w)
-word-bits w = value _
+pub word-bits : Determines Bits.word_bits.ended Bits.word_bits.Reads.Post
+word-bits κs a x y p q = part p q refl
 
-pub field : (s : List ℕ) (at w : ℕ) → Determines (λ (r : ℕ). r ≡ fieldOf at (wordBits w) (bitsOfBytes s))
-field s at w = value _
+pub field : Determines Bits.field.ended Bits.field.Reads.Post
+field κs a x y p q = part p q refl
 
-pub set-bit : (s : List ℕ) (i : ℕ) (v : Bool) → Determines (λ (after : List ℕ). after ≡ bytesOf (length s) (set (bitsOfBytes s) i v))
-set-bit s i v = value _
+pub set-bit : Determines Bits.set_bit.ended Bits.set_bit.Reads.Post
+set-bit κs a x y p q = part refl refl (part p q refl)
 
-pub bits-put : (s : List ℕ) (at w x : ℕ) → Determines (λ (after : List ℕ). after ≡ bytesOf (length s) (sets (bitsOfBytes s) at (bitsOf (wordBits w) x)))
-bits-put s at w x = value _
+pub bits-put : Determines Bits.put.ended Bits.put.Reads.Post
+bits-put κs a x y p q = part refl refl (part p q refl)
 
-pub show : (out bytes : List ℕ) (count : ℕ) → Determines (λ (after : List ℕ). after ≡ shown (take count (bitsOfBytes bytes)) out)
-show out bytes count = value _
+pub show : Determines Bits.show.ended Bits.show.Reads.Post
+show κs a x y p q = part refl refl (part p q refl)
 
-pub clear : (out : List ℕ) → Determines (λ (after : List ℕ). after ≡ shown [] out)
-clear out = value _
+pub clear : Determines Bits.clear.ended Bits.clear.Reads.Post
+clear κs a x y p q = part refl refl (part p q refl)
 
 -- ---- text
 
-writes : (text before : List ℕ) (at : ℕ) → Determines (λ (x : List ℕ × ℕ). Writes text before at (x .0) (x .1))
-writes text before at x y p q = both _ _ x y (p .bytes, p .place) (q .bytes, q .place)
+writes : {W : Type 0} {text before : List ℕ} {at : ℕ} {x y : ℕ × (List ℕ × W)}
+    → Writes text before at (x .1 .0) (x .0) → Writes text before at (y .1 .0) (y .0) → x .1 .1 ≡ y .1 .1 → x ≡ y
+writes p q r = part (p .place) (q .place) (part (p .bytes) (q .bytes) r)
 
-pub text-put : (out : List ℕ) (at : ℕ) (text : List ℕ) → Determines (λ (x : List ℕ × ℕ). Writes text out at (x .0) (x .1))
-text-put out at text = writes _ _ _
+pub text-put : Determines Text.put.ended Text.put.Reads.Post
+text-put κs a x y p q = writes p q refl
 
-pub decimal : (out : List ℕ) (at n : ℕ) → Determines (λ (x : List ℕ × ℕ). Writes (decimalOf n) out at (x .0) (x .1))
-decimal out at n = writes _ _ _
+pub decimal : Determines Text.decimal.ended Text.decimal.Reads.Post
+decimal κs a x y p q = writes p q refl
 
-pub hex : (out : List ℕ) (at : ℕ) (bytes : List ℕ) (n : ℕ) → Determines (λ (x : List ℕ × ℕ). Writes (hexOf (take n bytes)) out at (x .0) (x .1))
-hex out at bytes n = writes _ _ _
+pub hex : Determines Text.hex.ended Text.hex.Reads.Post
+hex κs a x y p q = writes p q refl
 
-pub spaced : (out : List ℕ) (at n : ℕ) → Determines (λ (x : List ℕ × ℕ). Writes (spacedOf n) out at (x .0) (x .1))
-spaced out at n = writes _ _ _
+pub spaced : Determines Text.spaced.ended Text.spaced.Reads.Post
+spaced κs a x y p q = writes p q refl
 
-pub reply : (out : List ℕ) (at : ℕ) (bytes : List ℕ) (count : ℕ) → Determines (λ (x : List ℕ × ℕ). Writes (replyOf count bytes) out at (x .0) (x .1))
-reply out at bytes count = writes _ _ _
+pub reply : Determines Text.reply.ended Text.reply.Reads.Post
+reply κs a x y p q = writes p q refl
 
 -- ---- console
 
-pub print : (line : List ℕ) (at : ℕ) → Determines (λ (after : List ℕ). after ≡ ended line at)
-print line at = value _
+pub print : Determines Console.print.ended Console.print.Reads.Post
+print κs a x y p q = part refl refl (part p q refl)
 
 -- ---- counts
 
-pub refusal-number : (why : Refusal) → Determines (λ (r : ℕ). r ≡ Refusals.numberOf why)
-refusal-number why = value _
+pub refusal-number : Determines Counts.Refusal.number.ended Counts.Refusal.number.Reads.Post
+refusal-number κs a x y p q = part p q refl
 
-pub count-read : (s : List ℕ) (at most : ℕ) → Determines (λ (r : Counted). r ≡ countAt s at most)
-count-read s at most = value _
+pub count-read : Determines Counts.read.ended Counts.read.Reads.Post
+count-read κs a x y p q = part p q refl
 
-pub count-check : (limit count : ℕ) (payload : List ℕ) → Determines (λ (r : Checked). r ≡ checkOf limit count payload)
-count-check limit count payload = value _
+pub count-check : Determines Counts.check.ended Counts.check.Reads.Post
+count-check κs a x y p q = part p q refl
 
-pub count-size : (count : ℕ) → Determines (λ (r : ℕ). r ≡ sizeOf count)
-count-size count = value _
+pub count-size : Determines Counts.size.ended Counts.size.Reads.Post
+count-size κs a x y p q = part p q refl
 
-pub count-groups : (count : ℕ) → Determines (λ (r : ℕ). r ≡ length (countBytes count))
-count-groups count = value _
+pub count-groups : Determines Counts.groups.ended Counts.groups.Reads.Post
+count-groups κs a x y p q = part p q refl
 
-pub count-put : (out : List ℕ) (count : ℕ) → Determines (λ (after : List ℕ). after ≡ sets out 0 (countBytes count))
-count-put out count = value _
+pub count-put : Determines Counts.put.ended Counts.put.Reads.Post
+count-put κs a x y p q = part refl refl (part p q refl)
 
 -- ---- book
 
-pub sound : (book : List ℕ) → Determines (λ (r : Bool). r ≡ Book.soundOf book)
-sound book = value _
+pub sound : Determines Book.sound.ended Book.sound.Reads.Post
+sound κs a x y p q = part p q refl
 
-pub find : (book : List ℕ) (id : ℕ) → Determines (λ (r : List ℕ). r ≡ Book.keyOf id book)
-find book id = value _
+pub find : DeterminesShown Book.find.ended Book.find.Reads.Post (λ κs r. r .now)
+find κs a x y p q = (p ∙ sym q, refl)
 
 -- ---- frames
 
-pub scan : (s : List ℕ) → Determines (λ (r : Scanned). r ≡ Frames.scanOf s)
-scan s = value _
+pub scan : Determines Frames.scan.ended Frames.scan.Reads.Post
+scan κs a x y p q = part p q refl
 
-pub payload : (s : List ℕ) → Determines (λ (r : List ℕ). r ≡ Frames.payloadOf s)
-payload s = value _
+pub payload : DeterminesShown Frames.payload.ended Frames.payload.Reads.Post (λ κs r. r .now)
+payload κs a x y p q = (p ∙ sym q, refl)
 
-pub write : (out : List ℕ) (at kind count : ℕ) (bytes : List ℕ)
-    → Determines (λ (x : Written × List ℕ). (x .0 ≡ Frames.writtenOf (length out) at kind count bytes) × (x .1 ≡ Frames.outAfter out at kind count bytes))
-write out at kind count bytes = both _ _
+pub write : Determines Frames.write.ended Frames.write.Reads.Post
+write κs a x y p q = part (p .0) (q .0) (part (p .1) (q .1) refl)
 
 -- ---- payloads
 
-pub beyond : (s : List ℕ) (count : ℕ) → Determines (λ (r : Bool). r ≡ Payloads.beyondOf s count)
-beyond s count = value _
+pub beyond : Determines Payloads.beyond.ended Payloads.beyond.Reads.Post
+beyond κs a x y p q = part p q refl
 
-pub first-fields : (payload : List ℕ) → Determines (λ (r : Fields). r ≡ Payloads.fieldsIn (bitsOfBytes payload))
-first-fields payload = value _
+pub first-fields : Determines Payloads.first_fields.ended Payloads.first_fields.Reads.Post
+first-fields κs a x y p q = part p q refl
 
-pub features : (payload : List ℕ) → Determines (λ (r : ℕ). r ≡ Payloads.featuresIn (bitsOfBytes payload))
-features payload = value _
+pub features : Determines Payloads.features.ended Payloads.features.Reads.Post
+features κs a x y p q = part p q refl
 
-pub status : (payload : List ℕ) → Determines (λ (r : ℕ). r ≡ Payloads.statusIn (bitsOfBytes payload))
-status payload = value _
+pub status : Determines Payloads.status.ended Payloads.status.Reads.Post
+status κs a x y p q = part p q refl
 
-pub payload-write : (p : Payload) (out : List ℕ)
-    → Determines (λ (x : ℕ × List ℕ). (x .0 ≡ length (Payloads.layoutOf p)) × (x .1 ≡ shown (Payloads.layoutOf p) out))
-payload-write p out = both _ _
+pub payload-write : Determines Payloads.write.ended Payloads.write.Reads.Post
+payload-write κs a x y p q = part (p .0) (q .0) (past 1 _ (part (p .1) (q .1) refl))
 
-pub data-bits : (w count : ℕ) → Determines (λ (r : ℕ). r ≡ Payloads.dataBits w count)
-data-bits w count = value _
+pub data-bits : Determines Payloads.data_bits.ended Payloads.data_bits.Reads.Post
+data-bits κs a x y p q = part p q refl
 
-pub zeros : (w : ℕ) (payload : List ℕ) (count : ℕ) → Determines (λ (r : Bool). r ≡ Payloads.zerosOf w count (bitsOfBytes payload))
-zeros w payload count = value _
+pub zeros : Determines Payloads.zeros.ended Payloads.zeros.Reads.Post
+zeros κs a x y p q = part p q refl
 
-pub length-fits : (w count : ℕ) → Determines (λ (r : Bool). r ≡ Payloads.lengthFits w count)
-length-fits w count = value _
+pub length-fits : Determines Payloads.length_fits.ended Payloads.length_fits.Reads.Post
+length-fits κs a x y p q = part p q refl
 
-pub mac-bits : (options : ℕ) → Determines (λ (r : ℕ). r ≡ Payloads.macBits options)
-mac-bits options = value _
+pub mac-bits : Determines Payloads.mac_bits.ended Payloads.mac_bits.Reads.Post
+mac-bits κs a x y p q = part p q refl
 
-pub secure : (options : ℕ) → Determines (λ (r : Bool). r ≡ Payloads.securing options)
-secure options = value _
+pub secure : Determines Payloads.secure.ended Payloads.secure.Reads.Post
+secure κs a x y p q = part p q refl
 
-pub supported : (features options : ℕ) → Determines (λ (r : Bool). r ≡ Payloads.supports features options)
-supported features options = value _
+pub supported : Determines Payloads.supported.ended Payloads.supported.Reads.Post
+supported κs a x y p q = part p q refl
 
-pub start-supported : (features method options : ℕ) → Determines (λ (r : Bool). r ≡ Payloads.supportsStart features method options)
-start-supported features method options = value _
+pub start-supported : Determines Payloads.start_supported.ended Payloads.start_supported.Reads.Post
+start-supported κs a x y p q = part p q refl

@@ -1,111 +1,106 @@
 -- Every public function of `blocks` and `capi`, by its own name: two outcomes that meet its contract are equal. Assumes nothing.
-use mathlib.Core.Path.{_≡_, sym, ap, ap₂, _∙_}
-use mathlib.Core.Bool.{Bool}
-use mathlib.Core.List.{List, [], _∷_}
+use mathlib.Core.Path.{_≡_, refl, sym, ap, _∙_}
+use mathlib.Core.List.{List}
 use Prim.Native.Nat.{ℕ}
-use lib.ListN.{length, getD}
-use Rattle.book.specs.Book as Book
-use Rattle.frames.specs.Frame as Frames
-use Rattle.rules.specs.Calls.{Command, Message, Begin}
-use Rattle.states.specs.declared.tag.TagState.{TagState}
-use Rattle.states.specs.declared.reader.ReaderState.{ReaderState}
-use Rattle.blocks.specs.Blocks as Blocks
-use Rattle.capi.specs.Calls as Calls
+use lib.ListN.{getD}
+use Rattle.blocks.proofs as Blocks
+use Rattle.capi.proofs as Capi
+use Rattle.capi.specs.Calls.{Called, Leaves}
 use Rattle.determined.specs.Determined.{Determines}
-use Rattle.determined.proofs.Determined.{value, both}
+use Rattle.determined.proofs.Determined.{part, Past, after, past}
 
 -- ---- blocks
 
-pub spells-tag : (block : List ℕ) → Determines (λ (r : Bool). r ≡ Blocks.spellsTag block)
-spells-tag block = value _
+pub spells-tag : Determines Blocks.tag.spells.ended Blocks.tag.spells.Reads.Post
+spells-tag κs a x y p q = part p q refl
 
-pub read-tag : (block : List ℕ) → Determines (λ (r : TagState). r ≡ Blocks.tagIn block)
-read-tag block = value _
+pub read-tag : Determines Blocks.tag.read.ended Blocks.tag.read.Reads.Post
+read-tag κs a x y p q = part p q refl
 
-pub store-tag : (block : List ℕ) (t : TagState) → Determines (λ (r : List ℕ). r ≡ Blocks.storedIn Blocks.tagBytes (Blocks.tagBlock t) block)
-store-tag block t = value _
+pub store-tag : Determines Blocks.tag.store.ended Blocks.tag.store.Reads.Post
+store-tag κs a x y p q = part refl refl (part p q refl)
 
-pub spells-reader : (block : List ℕ) → Determines (λ (r : Bool). r ≡ Blocks.spellsReader block)
-spells-reader block = value _
+pub spells-reader : Determines Blocks.reader.spells.ended Blocks.reader.spells.Reads.Post
+spells-reader κs a x y p q = part p q refl
 
-pub read-reader : (block : List ℕ) → Determines (λ (r : ReaderState). r ≡ Blocks.readerIn block)
-read-reader block = value _
+pub read-reader : Determines Blocks.reader.read.ended Blocks.reader.read.Reads.Post
+read-reader κs a x y p q = part p q refl
 
-pub store-reader : (block : List ℕ) (t : ReaderState) → Determines (λ (r : List ℕ). r ≡ Blocks.storedIn Blocks.readerBytes (Blocks.readerBlock t) block)
-store-reader block t = value _
+pub store-reader : Determines Blocks.reader.store.ended Blocks.reader.store.Reads.Post
+store-reader κs a x y p q = part refl refl (part p q refl)
 
 -- ---- capi
 
--- what a call leaves: the answer and the bit count, the block and the buffer
-abbrev Outcome : Type 0
-Outcome = (ℕ × ℕ) × (List ℕ × List ℕ)
+-- the reply buffer and the bit count are the last of the parameters
+replied : (n : ℕ) {c : Called} {stored stored′ b : List ℕ} {x y : ℕ × Past n (List ℕ × (ℕ × Unit {0}))}
+    → Leaves c (x .0) (after n _ (x .1) .1 .0) stored b (after n _ (x .1) .0)
+    → Leaves c (y .0) (after n _ (y .1) .1 .0) stored′ b (after n _ (y .1) .0)
+    → x ≡ y
+replied n p q =
+    part (p .answered) (q .answered) (past n _ (part (p .replied) (q .replied) (part (p .counted) (q .counted) refl)))
 
-abbrev Left : Calls.Called → List ℕ → Outcome → Type 0
-Left x before o = Calls.Leaves x (o .0 .0) (o .0 .1) (o .1 .0) before (o .1 .1)
-
-leaves : (x : Calls.Called) (before : List ℕ) → Determines (Left x before)
-leaves x before o p l m =
-    ap₂ (λ (a : ℕ × ℕ) (b : List ℕ × List ℕ). (a, b))
-    (both _ _ (o .0) (p .0) (l .answered, l .counted) (m .answered, m .counted))
-    (both _ _ (o .1) (p .1) (l .stored, l .replied) (m .stored, m .replied))
+-- the block is the first
+leaves : (n : ℕ) {c : Called} {b : List ℕ} {x y : ℕ × (List ℕ × Past n (List ℕ × (ℕ × Unit {0})))}
+    → Leaves c (x .0) (after n _ (x .1 .1) .1 .0) (x .1 .0) b (after n _ (x .1 .1) .0)
+    → Leaves c (y .0) (after n _ (y .1 .1) .1 .0) (y .1 .0) b (after n _ (y .1 .1) .0)
+    → x ≡ y
+leaves n p q =
+    part (p .answered) (q .answered)
+    (part (p .stored) (q .stored) (past n _ (part (p .replied) (q .replied) (part (p .counted) (q .counted) refl))))
 
 -- ---- the tag
 
-pub tag-reset : (block b : List ℕ) → Determines (Left (Calls.tagResetCalled block) b)
-tag-reset block b = leaves _ b
+pub tag-reset : Determines Capi.kusarehyon_tag_reset.ended Capi.kusarehyon_tag_reset.Reads.Post
+tag-reset κs a x y p q = leaves 0 p q
 
-pub tag-command : (block : List ℕ) (i : Command) (b : List ℕ) → Determines (Left (Calls.commandCalled block i (length b)) b)
-tag-command block i b = leaves _ b
+pub tag-command : Determines Capi.kusarehyon_tag_command.ended Capi.kusarehyon_tag_command.Reads.Post
+tag-command κs a x y p q = leaves 6 p q
 
-pub tag-response : (block : List ℕ) (i : Message) (b : List ℕ) → Determines (Left (Calls.responseCalled block i (length b)) b)
-tag-response block i b = leaves _ b
+pub tag-response : Determines Capi.kusarehyon_tag_response.ended Capi.kusarehyon_tag_response.Reads.Post
+tag-response κs a x y p q = leaves 3 p q
 
-pub tag-close : (block : List ℕ) → Determines (λ (x : ℕ × List ℕ). (x .0 ≡ Calls.closeAnswer block) × (x .1 ≡ Calls.closedBlock block))
-tag-close block = both _ _
+pub tag-close : Determines Capi.kusarehyon_tag_close.ended Capi.kusarehyon_tag_close.Reads.Post
+tag-close κs a x y p q = part (p .0) (q .0) (part (p .1) (q .1) refl)
 
-pub tag-error-type : (block : List ℕ) → Determines (λ (r : ℕ). r ≡ Calls.errorTypeCalled block)
-tag-error-type block = value _
+pub tag-error-type : Determines Capi.kusarehyon_tag_error_type.ended Capi.kusarehyon_tag_error_type.Reads.Post
+tag-error-type κs a x y p q = part p q refl
 
 -- ---- the reader
 
-pub reader-reset : (block b : List ℕ) → Determines (Left (Calls.readerResetCalled block) b)
-reader-reset block b = leaves _ b
+pub reader-reset : Determines Capi.kusarehyon_reader_reset.ended Capi.kusarehyon_reader_reset.Reads.Post
+reader-reset κs a x y p q = leaves 0 p q
 
-pub reader-begin : (block : List ℕ) (i : Begin) (b : List ℕ) → Determines (Left (Calls.beginCalled block i (length b)) b)
-reader-begin block i b = leaves _ b
+pub reader-begin : Determines Capi.kusarehyon_reader_begin.ended Capi.kusarehyon_reader_begin.Reads.Post
+reader-begin κs a x y p q = leaves 5 p q
 
-pub reader-replied : (block bytes : List ℕ) (count : ℕ) (b : List ℕ) → Determines (Left (Calls.repliedCalled block bytes count (length b)) b)
-reader-replied block bytes count b = leaves _ b
+pub reader-replied : Determines Capi.kusarehyon_reader_replied.ended Capi.kusarehyon_reader_replied.Reads.Post
+reader-replied κs a x y p q = leaves 2 p q
 
-pub reader-send : (block : List ℕ) (i : Message) (b : List ℕ) → Determines (Left (Calls.sendCalled block i (length b)) b)
-reader-send block i b = leaves _ b
+pub reader-send : Determines Capi.kusarehyon_reader_send.ended Capi.kusarehyon_reader_send.Reads.Post
+reader-send κs a x y p q = leaves 3 p q
 
-pub reader-receive : (block : List ℕ) (i : Message) (b : List ℕ) → Determines (Left (Calls.receiveCalled block i (length b)) b)
-reader-receive block i b = leaves _ b
+pub reader-receive : Determines Capi.kusarehyon_reader_receive.ended Capi.kusarehyon_reader_receive.Reads.Post
+reader-receive κs a x y p q = leaves 3 p q
 
 -- ---- book and frames
 
-pub book-sound : (book : List ℕ) → Determines (λ (r : Bool). r ≡ Book.soundOf book)
-book-sound book = value _
+pub book-sound : Determines Capi.kusarehyon_book_sound.ended Capi.kusarehyon_book_sound.Reads.Post
+book-sound κs a x y p q = part p q refl
 
 -- a call with no block: none before, none after
-pub book-find : (book : List ℕ) (keyid : ℕ) (b : List ℕ) → Determines (Left (Calls.findCalled book keyid (length b)) b)
-book-find book keyid b = leaves _ b
+pub book-find : Determines Capi.kusarehyon_book_find.ended Capi.kusarehyon_book_find.Reads.Post
+book-find κs a x y p q = replied 2 p q
 
 -- numbers that stand in one list are each determined by it
 at : (i : ℕ) {l m n : List ℕ} → l ≡ n → m ≡ n → getD l i 0 ≡ getD m i 0
 at i e f = ap (λ (k : List ℕ). getD k i 0) (e ∙ sym f)
 
 -- answer, kind, count, start, end
-pub frame-scan : (s : List ℕ)
-    → Determines (λ (x : ℕ × (ℕ × (ℕ × (ℕ × ℕ)))). x .0 ∷ x .1 .0 ∷ x .1 .1 .0 ∷ x .1 .1 .1 .0 ∷ x .1 .1 .1 .1 ∷ [] ≡ Calls.scannedNumbers (Frames.scanOf s))
-frame-scan s x y e f =
-    ap₂ (λ (a : ℕ) (b : ℕ × (ℕ × (ℕ × ℕ))). (a, b)) (at 0 e f)
-    (ap₂ (λ (a : ℕ) (b : ℕ × (ℕ × ℕ)). (a, b)) (at 1 e f)
-    (ap₂ (λ (a : ℕ) (b : ℕ × ℕ). (a, b)) (at 2 e f) (ap₂ (λ (a b : ℕ). (a, b)) (at 3 e f) (at 4 e f))))
+pub frame-scan : Determines Capi.kusarehyon_frame_scan.ended Capi.kusarehyon_frame_scan.Reads.Post
+frame-scan κs a x y p q =
+    part (at 0 p q) refl
+    (past 1 _ (part (at 1 p q) refl (part (at 2 p q) refl (part (at 3 p q) refl (part (at 4 p q) refl refl)))))
 
 -- answer and next place; the buffer
-pub frame-write : (out : List ℕ) (place kind count : ℕ) (bytes : List ℕ)
-    → Determines (λ (x : (ℕ × ℕ) × List ℕ). (x .0 .0 ∷ x .0 .1 ∷ [] ≡ Calls.writtenNumbers (Frames.writtenOf (length out) place kind count bytes)) × (x .1 ≡ Frames.outAfter out place kind count bytes))
-frame-write out place kind count bytes x y e f =
-    ap₂ (λ (a : ℕ × ℕ) (b : List ℕ). (a, b)) (ap₂ (λ (a b : ℕ). (a, b)) (at 0 (e .0) (f .0)) (at 1 (e .0) (f .0))) (e .1 ∙ sym (f .1))
+pub frame-write : Determines Capi.kusarehyon_frame_write.ended Capi.kusarehyon_frame_write.Reads.Post
+frame-write κs a x y p q = part (at 0 (p .0) (q .0)) refl (part (p .1) (q .1) (past 4 _ (part (at 1 (p .0) (q .0)) refl refl)))

@@ -1,251 +1,205 @@
 -- Every public function of the cipher, the stored states, the verdicts, the authentications, both machines and the host, by its own
 -- name: two outcomes that meet its contract are equal. Assumes nothing.
-use mathlib.Core.Path.{_≡_}
-use mathlib.Core.Bool.{Bool}
+use mathlib.Core.Path.{_≡_, refl}
 use mathlib.Core.List.{List}
 use Prim.Native.Nat.{ℕ}
-use lib.ListN.{length, take}
-use Rattle.bits.specs.Bytes.{bitsOfBytes, withFront, wordBits}
-use Rattle.grain.specs.declared.Engine.{Engine}
-use Rattle.grain.specs.declared.Method.{Method}
-use Rattle.grain.specs.declared.Outputs.{Outputs}
-use Rattle.grain.specs.declared.Pair.{Pair}
-use Rattle.grain.specs.declared.Register.{Register}
-use Rattle.grain.specs.declared.Session.{Session}
-use Rattle.grain.specs.declared.Width.{Width}
-use Rattle.grain.specs.Start.{loaded, started}
-use Rattle.grain.specs.Mac as Mac
-use Rattle.grain.specs.Stored as Stored
-use Rattle.faces.specs.declared.Face.{Face}
-use Rattle.faces.specs.declared.ReaderFace.{ReaderFace}
-use Rattle.rules.specs.declared.Shown.{Shown}
-use Rattle.rules.specs.declared.ShownBegin.{ShownBegin}
-use Rattle.rules.specs.declared.ShownReply.{ShownReply}
-use Rattle.rules.specs.declared.Verdict.{Verdict}
-use Rattle.rules.specs.Calls.{Command, Message, Begin}
+use Rattle.grain.proofs as Grain
 use Rattle.rules.specs.Results.{Result, Gives}
-use Rattle.rules.specs.ReaderRules.{replyWork}
-use Rattle.states.specs.declared.tag.TagState.{TagState}
-use Rattle.states.specs.declared.reader.ReaderState.{ReaderState}
-use Rattle.states.specs.Sessions as Sessions
-use Rattle.states.specs.TagStates as Tag
-use Rattle.states.specs.ReaderStates as Reader
-use Rattle.machines.specs.TagWork as TagWork
-use Rattle.machines.specs.ReaderWork as ReaderWork
-use Rattle.authentication.specs.declared.TagOutcome.{TagOutcome}
-use Rattle.authentication.specs.declared.ReaderOutcome.{ReaderOutcome}
-use Rattle.authentication.specs.Outcomes.{tagOutcome, readerOutcome}
-use Rattle.suite.specs.declared.Tag as Suite
-use Rattle.suite.specs.declared.Step.{Step}
-use Rattle.suite.specs.declared.ReaderStep.{ReaderStep}
-use Rattle.suite.specs.Steps.{tagStep, readerStep}
-use Rattle.host.specs.Kinds.{ranOf}
+use Rattle.states.proofs as States
+use Rattle.verdicts.proofs as Verdicts
+use Rattle.authentication.proofs as Authentication
+use Rattle.suite.proofs as Suite
+use Rattle.host.proofs as Host
 use Rattle.determined.specs.Determined.{Determines}
-use Rattle.determined.proofs.Determined.{value, both}
+use Rattle.determined.proofs.Determined.{part, Past, after, past}
 
 -- ---- grain
 
-pub width-bits : (v : Width) → Determines (λ (r : ℕ). r ≡ Stored.widthOf v)
-width-bits v = value _
+pub width-bits : Determines Grain.Width.bits.ended Grain.Width.bits.Reads.Post
+width-bits κs a x y p q = part p q refl
 
-pub load : (key : Register) (method : Method) (reader tag : ℕ) → Determines (λ (r : Engine). r ≡ Stored.engineOf (loaded method (Stored.bitsR key) reader tag))
-load key method reader tag = value _
+pub load : Determines Grain.Engine.load.ended Grain.Engine.load.Reads.Post
+load κs a x y p q = part p q refl
 
-pub start : (e : Engine) → Determines (λ (r : Engine). r ≡ Stored.engineOf (started (Stored.stateOf e)))
-start e = value _
+pub start : Determines Grain.Engine.start.ended Grain.Engine.start.Reads.Post
+start κs a x y p q = part p q refl
 
-pub outputs : (e : Engine) (n : ℕ) → Determines (λ (r : Outputs). r ≡ Stored.outputsOf (wordBits n) (Stored.stateOf e))
-outputs e n = value _
+pub outputs : Determines Grain.Engine.outputs.ended Grain.Engine.outputs.Reads.Post
+outputs κs a x y p q = part p q refl
 
-pub pair : (e : Engine) → Determines (λ (r : Pair). r ≡ Stored.pairOf (Stored.stateOf e))
-pair e = value _
+pub pair : Determines Grain.Engine.pair.ended Grain.Engine.pair.Reads.Post
+pair κs a x y p q = part p q refl
 
-pub keystream : (e : Engine) → Determines (λ (r : Outputs). r ≡ Stored.keystreamOf 64 (Stored.stateOf e))
-keystream e = value _
+pub keystream : Determines Grain.Engine.keystream.ended Grain.Engine.keystream.Reads.Post
+keystream κs a x y p q = part p q refl
 
-pub fill : (e : Engine) (v : Width) → Determines (λ (r : Session). r ≡ Stored.sessionOf (Mac.filled (Stored.widthOf v) (Stored.stateOf e)))
-fill e v = value _
+pub fill : Determines Grain.Engine.fill.ended Grain.Engine.fill.Reads.Post
+fill κs a x y p q = part p q refl
 
-module _ (x : Session) (v : Width) (bytes : List ℕ) (count : ℕ) where
-  abbrev first : List Bool
-  first = take count (bitsOfBytes bytes)
+pub authenticate : Determines Grain.Session.authenticate.ended Grain.Session.authenticate.Reads.Post
+authenticate κs a x y p q = part p q refl
 
-  abbrev mac : Mac.Mac
-  mac = Stored.macOf (Stored.widthOf v) x
+pub encrypt : Determines Grain.Session.encrypt.ended Grain.Session.encrypt.Reads.Post
+encrypt κs a x y p q = part (p .0) (q .0) (past 2 _ (part (p .1) (q .1) refl))
 
-  pub authenticate : Determines (λ (r : Session). r ≡ Stored.sessionOf (Mac.authenticated first mac))
-  authenticate = value _
-
-  pub encrypt : Determines (λ (r : Session × List ℕ).
-      (r .0 ≡ Stored.sessionOf (Mac.authenticated (Mac.encrypted first mac) mac))
-      × (r .1 ≡ withFront count (Mac.encrypted first mac) bytes))
-  encrypt = both _ _
-
-  pub decrypt : Determines (λ (r : Session × List ℕ).
-      (r .0 ≡ Stored.sessionOf (Mac.authenticated first mac)) × (r .1 ≡ withFront count (Mac.decrypted first mac) bytes))
-  decrypt = both _ _
+pub decrypt : Determines Grain.Session.decrypt.ended Grain.Session.decrypt.Reads.Post
+decrypt κs a x y p q = part (p .0) (q .0) (past 2 _ (part (p .1) (q .1) refl))
 
 -- ---- states
 
-pub chosen-width : (options : ℕ) → Determines (λ (r : Width). r ≡ Sessions.chosenWidth options)
-chosen-width options = value _
+pub chosen-width : Determines States.session.chosen_width.ended States.session.chosen_width.Reads.Post
+chosen-width κs a x y p q = part p q refl
 
-pub stored-width : (width : ℕ) → Determines (λ (r : Width). r ≡ Sessions.storedWidth width)
-stored-width width = value _
+pub stored-width : Determines States.session.stored_width.ended States.session.stored_width.Reads.Post
+stored-width κs a x y p q = part p q refl
 
-pub key-in : (key : List ℕ) → Determines (λ (r : Register). r ≡ Sessions.keyIn key)
-key-in key = value _
+pub key-in : Determines States.session.key_in.ended States.session.key_in.Reads.Post
+key-in κs a x y p q = part p q refl
 
-pub session-begin : (key : Register) (method reader tag : ℕ) → Determines (λ (r : Engine). r ≡ Sessions.begunEngine key method reader tag)
-session-begin key method reader tag = value _
+pub session-begin : Determines States.session.begin.ended States.session.begin.Reads.Post
+session-begin κs a x y p q = part p q refl
 
-pub with-engine : (x : Session) (e : Engine) → Determines (λ (r : Session). r ≡ Sessions.withEngine x e)
-with-engine x e = value _
+pub with-engine : Determines States.session.with_engine.ended States.session.with_engine.Reads.Post
+with-engine κs a x y p q = part p q refl
 
-pub tag-of : (f : Face) (x : Session) → Determines (λ (r : TagState). r ≡ Tag.tagOf f x)
-tag-of f x = value _
+pub tag-of : Determines States.tag.TagState.of.ended States.tag.TagState.of.Reads.Post
+tag-of κs a x y p q = part p q refl
 
-pub tag-face : (t : TagState) → Determines (λ (r : Face). r ≡ Tag.faceOf t)
-tag-face t = value _
+pub tag-face : Determines States.tag.TagState.face.ended States.tag.TagState.face.Reads.Post
+tag-face κs a x y p q = part p q refl
 
-pub tag-session : (t : TagState) → Determines (λ (r : Session). r ≡ Tag.secretsOf t)
-tag-session t = value _
+pub tag-session : Determines States.tag.TagState.session.ended States.tag.TagState.session.Reads.Post
+tag-session κs a x y p q = part p q refl
 
-pub tag-sound : (t : TagState) → Determines (λ (r : Bool). r ≡ Tag.soundOf t)
-tag-sound t = value _
+pub tag-sound : Determines States.tag.TagState.sound.ended States.tag.TagState.sound.Reads.Post
+tag-sound κs a x y p q = part p q refl
 
-pub tag-state-reset : Determines (λ (r : TagState). r ≡ Tag.resetTag)
-tag-state-reset = value _
+pub tag-state-reset : Determines States.tag.TagState.reset.ended States.tag.TagState.reset.Reads.Post
+tag-state-reset κs a x y p q = part p q refl
 
-pub tag-closed : (t : TagState) → Determines (λ (r : TagState). r ≡ Tag.closedTag t)
-tag-closed t = value _
+pub tag-closed : Determines States.tag.TagState.closed.ended States.tag.TagState.closed.Reads.Post
+tag-closed κs a x y p q = part p q refl
 
-pub tag-failed : (ma : Bool) → Determines (λ (r : TagState). r ≡ Tag.failedTag ma)
-tag-failed ma = value _
+pub tag-failed : Determines States.tag.TagState.failed.ended States.tag.TagState.failed.Reads.Post
+tag-failed κs a x y p q = part p q refl
 
-pub tag-begun : (ma : Bool) (keyid : ℕ) (e : Engine) → Determines (λ (r : TagState). r ≡ Tag.begunTag ma keyid e)
-tag-begun ma keyid e = value _
+pub tag-begun : Determines States.tag.TagState.begun.ended States.tag.TagState.begun.Reads.Post
+tag-begun κs a x y p q = part p q refl
 
-pub tag-opened : (method : Method) (keyid options : ℕ) (x : Session) → Determines (λ (r : TagState). r ≡ Tag.openTag method keyid options x)
-tag-opened method keyid options x = value _
+pub tag-opened : Determines States.tag.TagState.opened.ended States.tag.TagState.opened.Reads.Post
+tag-opened κs a x y p q = part p q refl
 
-pub tag-with-session : (t : TagState) (x : Session) → Determines (λ (r : TagState). r ≡ Tag.withSession t x)
-tag-with-session t x = value _
+pub tag-with-session : Determines States.tag.TagState.with_session.ended States.tag.TagState.with_session.Reads.Post
+tag-with-session κs a x y p q = part p q refl
 
-pub reader-of : (f : ReaderFace) (x : Session) → Determines (λ (r : ReaderState). r ≡ Reader.readerOf f x)
-reader-of f x = value _
+pub reader-of : Determines States.reader.ReaderState.of.ended States.reader.ReaderState.of.Reads.Post
+reader-of κs a x y p q = part p q refl
 
-pub reader-face : (s : ReaderState) → Determines (λ (r : ReaderFace). r ≡ Reader.readerFaceOf s)
-reader-face s = value _
+pub reader-face : Determines States.reader.ReaderState.face.ended States.reader.ReaderState.face.Reads.Post
+reader-face κs a x y p q = part p q refl
 
-pub reader-session : (s : ReaderState) → Determines (λ (r : Session). r ≡ Reader.readerSecretsOf s)
-reader-session s = value _
+pub reader-session : Determines States.reader.ReaderState.session.ended States.reader.ReaderState.session.Reads.Post
+reader-session κs a x y p q = part p q refl
 
-pub reader-sound : (s : ReaderState) → Determines (λ (r : Bool). r ≡ Reader.readerSound s)
-reader-sound s = value _
+pub reader-sound : Determines States.reader.ReaderState.sound.ended States.reader.ReaderState.sound.Reads.Post
+reader-sound κs a x y p q = part p q refl
 
-pub reader-state-reset : Determines (λ (r : ReaderState). r ≡ Reader.resetReader)
-reader-state-reset = value _
+pub reader-state-reset : Determines States.reader.ReaderState.reset.ended States.reader.ReaderState.reset.Reads.Post
+reader-state-reset κs a x y p q = part p q refl
 
-pub reader-closed : Determines (λ (r : ReaderState). r ≡ Reader.closedReader)
-reader-closed = value _
+pub reader-closed : Determines States.reader.ReaderState.closed.ended States.reader.ReaderState.closed.Reads.Post
+reader-closed κs a x y p q = part p q refl
 
-pub reader-begun : (method options keyid number : ℕ) (key : Register) → Determines (λ (r : ReaderState). r ≡ Reader.begunReader method options keyid number key)
-reader-begun method options keyid number key = value _
+pub reader-begun : Determines States.reader.ReaderState.begun.ended States.reader.ReaderState.begun.Reads.Post
+reader-begun κs a x y p q = part p q refl
 
-pub reader-filled : (s : ReaderState) (opens : Bool) (x : Session) → Determines (λ (r : ReaderState). r ≡ Reader.filledReader opens s x)
-reader-filled s opens x = value _
+pub reader-filled : Determines States.reader.ReaderState.filled.ended States.reader.ReaderState.filled.Reads.Post
+reader-filled κs a x y p q = part p q refl
 
-pub reader-opened : (s : ReaderState) (x : Session) → Determines (λ (r : ReaderState). r ≡ Reader.openedReader s x)
-reader-opened s x = value _
+pub reader-opened : Determines States.reader.ReaderState.opened.ended States.reader.ReaderState.opened.Reads.Post
+reader-opened κs a x y p q = part p q refl
 
-pub reader-with-session : (s : ReaderState) (x : Session) → Determines (λ (r : ReaderState). r ≡ Reader.withReaderSession s x)
-reader-with-session s x = value _
+pub reader-with-session : Determines States.reader.ReaderState.with_session.ended States.reader.ReaderState.with_session.Reads.Post
+reader-with-session κs a x y p q = part p q refl
 
-module _ (x : Session) (v : Width) (secure : Bool) (bytes : List ℕ) (count : ℕ) where
-  abbrev given : List Bool
-  given = take count (bitsOfBytes bytes)
+pub session-send : Determines States.session.send.ended States.session.send.Reads.Post
+session-send κs a x y p q = part (p .0) (q .0) (past 3 _ (part (p .1) (q .1) refl))
 
-  pub session-send : Determines (λ (r : Session × List ℕ).
-      (r .0 ≡ Sessions.sentSession v secure given x) × (r .1 ≡ withFront count (Sessions.bodyOf v secure given x) bytes))
-  session-send = both _ _
-
-  pub session-receive : Determines (λ (r : Session × List ℕ).
-      (r .0 ≡ Sessions.afterMessage v given x) × (r .1 ≡ withFront count (Sessions.dataOf v secure given x) bytes))
-  session-receive = both _ _
+pub session-receive : Determines States.session.receive.ended States.session.receive.Reads.Post
+session-receive κs a x y p q = part (p .0) (q .0) (past 3 _ (part (p .1) (q .1) refl))
 
 -- ---- verdicts
 
-pub tag-command-verdict : (t : TagState) (p : Shown) → Determines (λ (r : Verdict). r ≡ TagWork.commandJudged t p)
-tag-command-verdict t p = value _
+pub tag-command-verdict : Determines Verdicts.tag.command.ended Verdicts.tag.command.Reads.Post
+tag-command-verdict κs a x y p q = part p q refl
 
-pub tag-response-verdict : (t : TagState) (m : Message) (room : ℕ) → Determines (λ (r : Verdict). r ≡ TagWork.responseJudged t m room)
-tag-response-verdict t m room = value _
+pub tag-response-verdict : Determines Verdicts.tag.response.ended Verdicts.tag.response.Reads.Post
+tag-response-verdict κs a x y p q = part p q refl
 
-pub reader-begin-verdict : (r : ReaderState) (p : ShownBegin) → Determines (λ (v : Verdict). v ≡ ReaderWork.beginJudged r p)
-reader-begin-verdict r p = value _
+pub reader-begin-verdict : Determines Verdicts.reader.begin.ended Verdicts.reader.begin.Reads.Post
+reader-begin-verdict κs a x y p q = part p q refl
 
-pub reader-replied-verdict : (r : ReaderState) (p : ShownReply) → Determines (λ (v : Verdict). v ≡ ReaderWork.replyJudged r p)
-reader-replied-verdict r p = value _
+pub reader-replied-verdict : Determines Verdicts.reader.replied.ended Verdicts.reader.replied.Reads.Post
+reader-replied-verdict κs a x y p q = part p q refl
 
-pub reader-send-verdict : (r : ReaderState) (m : Message) (room : ℕ) → Determines (λ (v : Verdict). v ≡ ReaderWork.sendJudged r m room)
-reader-send-verdict r m room = value _
+pub reader-send-verdict : Determines Verdicts.reader.send.ended Verdicts.reader.send.Reads.Post
+reader-send-verdict κs a x y p q = part p q refl
 
-pub reader-receive-verdict : (r : ReaderState) (m : Message) (room : ℕ) → Determines (λ (v : Verdict). v ≡ ReaderWork.receiveJudged r m room)
-reader-receive-verdict r m room = value _
+pub reader-receive-verdict : Determines Verdicts.reader.receive.ended Verdicts.reader.receive.Reads.Post
+reader-receive-verdict κs a x y p q = part p q refl
 
 -- ---- authentication
 
-pub tag-start : (p : Shown) (key payload : List ℕ) → Determines (λ (r : TagOutcome). r ≡ tagOutcome (TagWork.startOf p key payload))
-tag-start p key payload = value _
+pub tag-start : Determines Authentication.tag.start.ended Authentication.tag.start.Reads.Post
+tag-start κs a x y p q = part p q refl
 
-pub tag-prove : (t : TagState) (p : Shown) (payload : List ℕ) → Determines (λ (r : TagOutcome). r ≡ tagOutcome (TagWork.proveOf t p payload))
-tag-prove t p payload = value _
+pub tag-prove : Determines Authentication.tag.prove.ended Authentication.tag.prove.Reads.Post
+tag-prove κs a x y p q = part p q refl
 
-pub reader-begin : (method options keyid number : ℕ) (key : List ℕ) → Determines (λ (r : ReaderOutcome). r ≡ readerOutcome (ReaderWork.begunBy method options keyid number key))
-reader-begin method options keyid number key = value _
+pub reader-begin : Determines Authentication.reader.begin.ended Authentication.reader.begin.Reads.Post
+reader-begin κs a x y p q = part p q refl
 
-pub reader-answer : (s : ReaderState) (status : ℕ) (payload : List ℕ) → Determines (λ (r : ReaderOutcome). r ≡ readerOutcome (ReaderWork.answeredBy (replyWork (Reader.readerFaceOf s) status) s (bitsOfBytes payload)))
-reader-answer s status payload = value _
+pub reader-answer : Determines Authentication.reader.answer.ended Authentication.reader.answer.Reads.Post
+reader-answer κs a x y p q = part p q refl
 
 -- ---- suite
 
-gives : {S T : Type 0} (stepOf : Result S → T) (r : Result S) (b : List ℕ) → Determines (λ (x : T × List ℕ). Gives stepOf r (x .0) b (x .1))
-gives stepOf r b x y p q = both _ _ x y (p .step, p .reply) (q .step, q .reply)
+-- the reply buffer is the last of the parameters
+gives : (n : ℕ) {S T : Type 0} {stepOf : Result S → T} {r : Result S} {b : List ℕ} {x y : T × Past n (List ℕ × Unit {0})}
+    → Gives stepOf r (x .0) b (after n _ (x .1) .0) → Gives stepOf r (y .0) b (after n _ (y .1) .0) → x ≡ y
+gives n p q = part (p .step) (q .step) (past n _ (part (p .reply) (q .reply) refl))
 
-pub tag-reset : (b : List ℕ) → Determines (λ (x : Step × List ℕ). Gives tagStep TagWork.resetOf (x .0) b (x .1))
-tag-reset b = gives _ _ b
+pub tag-reset : Determines Suite.Tag.reset.ended Suite.Tag.reset.Reads.Post
+tag-reset κs a x y p q = gives 0 p q
 
-pub command : (t : TagState) (c : Command) (b : List ℕ) → Determines (λ (x : Step × List ℕ). Gives tagStep (TagWork.commandOf t c (length b)) (x .0) b (x .1))
-command t c b = gives _ _ b
+pub command : Determines Suite.Tag.command.ended Suite.Tag.command.Reads.Post
+command κs a x y p q = gives 7 p q
 
-pub response : (t : TagState) (m : Message) (b : List ℕ) → Determines (λ (x : Step × List ℕ). Gives tagStep (TagWork.responseOf t m (length b)) (x .0) b (x .1))
-response t m b = gives _ _ b
+pub response : Determines Suite.Tag.response.ended Suite.Tag.response.Reads.Post
+response κs a x y p q = gives 4 p q
 
-pub close : (t : TagState) → Determines (λ (r : Suite.Tag). r ≡ record { state = Tag.closedTag t })
-close t = value _
+pub close : Determines Suite.Tag.close.ended Suite.Tag.close.Reads.Post
+close κs a x y p q = part p q refl
 
-pub error-type : (t : TagState) → Determines (λ (r : ℕ). r ≡ TagWork.errorTypeOf t)
-error-type t = value _
+pub error-type : Determines Suite.Tag.error_type.ended Suite.Tag.error_type.Reads.Post
+error-type κs a x y p q = part p q refl
 
-pub reader-reset : (b : List ℕ) → Determines (λ (x : ReaderStep × List ℕ). Gives readerStep ReaderWork.readerReset (x .0) b (x .1))
-reader-reset b = gives _ _ b
+pub reader-reset : Determines Suite.Reader.reset.ended Suite.Reader.reset.Reads.Post
+reader-reset κs a x y p q = gives 0 p q
 
-pub begin : (r : ReaderState) (i : Begin) (b : List ℕ) → Determines (λ (x : ReaderStep × List ℕ). Gives readerStep (ReaderWork.beginOf r i (length b)) (x .0) b (x .1))
-begin r i b = gives _ _ b
+pub begin : Determines Suite.Reader.begin.ended Suite.Reader.begin.Reads.Post
+begin κs a x y p q = gives 6 p q
 
-pub replied : (r : ReaderState) (bytes : List ℕ) (count : ℕ) (b : List ℕ)
-    → Determines (λ (x : ReaderStep × List ℕ). Gives readerStep (ReaderWork.repliedOf r bytes count (length b)) (x .0) b (x .1))
-replied r bytes count b = gives _ _ b
+pub replied : Determines Suite.Reader.replied.ended Suite.Reader.replied.Reads.Post
+replied κs a x y p q = gives 3 p q
 
-pub send : (r : ReaderState) (m : Message) (b : List ℕ) → Determines (λ (x : ReaderStep × List ℕ). Gives readerStep (ReaderWork.sendingOf r m (length b)) (x .0) b (x .1))
-send r m b = gives _ _ b
+pub send : Determines Suite.Reader.send.ended Suite.Reader.send.Reads.Post
+send κs a x y p q = gives 4 p q
 
-pub receive : (r : ReaderState) (m : Message) (b : List ℕ)
-    → Determines (λ (x : ReaderStep × List ℕ). Gives readerStep (ReaderWork.receivingOf r m (length b)) (x .0) b (x .1))
-receive r m b = gives _ _ b
+pub receive : Determines Suite.Reader.receive.ended Suite.Reader.receive.Reads.Post
+receive κs a x y p q = gives 4 p q
 
 -- ---- host
 
-pub run : (t : TagState) (c : Command) (b : List ℕ) → Determines (λ (x : Step × List ℕ). Gives tagStep (ranOf t c (length b)) (x .0) b (x .1))
-run t c b = gives _ _ b
+pub run : Determines Host.run.ended Host.run.Reads.Post
+run κs a x y p q = gives 7 p q

@@ -1,100 +1,79 @@
 -- Every public function on public parts, by its own name: two outcomes that meet its contract are equal. Assumes nothing.
-use mathlib.Core.Path.{_≡_}
-use mathlib.Core.Bool.{Bool}
-use mathlib.Core.List.{List}
-use Prim.Native.Nat.{ℕ}
-use Rattle.faces.specs.declared.Face.{Face}
-use Rattle.faces.specs.declared.Name.{Name}
-use Rattle.faces.specs.declared.ReaderFace.{ReaderFace}
-use Rattle.faces.specs.declared.Row.{Row}
-use Rattle.faces.specs.declared.Stage.{Stage}
-use Rattle.faces.specs.declared.StageRow.{StageRow}
-use Rattle.faces.specs.TagFaces.{nameNumber, rowOf, faceFits, bare, mutually, errorType}
-use Rattle.faces.specs.ReaderFaces.{stageNumber, stageRow, readerFits, readerBare}
-use Rattle.rules.specs.declared.Answer.{Answer}
-use Rattle.rules.specs.declared.ReplyWork.{ReplyWork}
-use Rattle.rules.specs.declared.Shown.{Shown}
-use Rattle.rules.specs.declared.ShownBegin.{ShownBegin}
-use Rattle.rules.specs.declared.ShownMessage.{ShownMessage}
-use Rattle.rules.specs.declared.ShownReply.{ShownReply}
-use Rattle.rules.specs.declared.Verdict.{Verdict}
-use Rattle.rules.specs.declared.Work.{Work}
-use Rattle.rules.specs.Answers.{numberOf, ifSound}
-use Rattle.rules.specs.Calls.{messageShown}
-use Rattle.rules.specs.TagRules as Tag
-use Rattle.rules.specs.ReaderRules as Reader
-use Rattle.determined.specs.Determined.{Determines}
-use Rattle.determined.proofs.Determined.{value}
+use mathlib.Core.Path.{refl, sym, _∙_}
+use Rattle.faces.proofs as Faces
+use Rattle.rules.proofs as Rules
+use Rattle.determined.specs.Determined.{Determines, DeterminesShown}
+use Rattle.determined.proofs.Determined.{part}
 
 -- ---- faces
 
-pub name-number : (name : Name) → Determines (λ (r : ℕ). r ≡ nameNumber name)
-name-number name = value _
+pub name-number : Determines Faces.Name.number.ended Faces.Name.number.Reads.Post
+name-number κs a x y p q = part p q refl
 
-pub row-of : (name : Name) → Determines (λ (r : Row). r ≡ rowOf name)
-row-of name = value _
+pub row-of : Determines Faces.tag.row_of.ended Faces.tag.row_of.Reads.Post
+row-of κs a x y p q = part p q refl
 
-pub face-fits : (f : Face) → Determines (λ (r : Bool). r ≡ faceFits f)
-face-fits f = value _
+pub face-fits : Determines Faces.tag.face_fits.ended Faces.tag.face_fits.Reads.Post
+face-fits κs a x y p q = part p q refl
 
-pub face-bare : (f : Face) → Determines (λ (r : Bool). r ≡ bare f)
-face-bare f = value _
+pub face-bare : Determines Faces.tag.bare.ended Faces.tag.bare.Reads.Post
+face-bare κs a x y p q = part p q refl
 
-pub face-mutually : (f : Face) → Determines (λ (r : Bool). r ≡ mutually f)
-face-mutually f = value _
+pub face-mutually : Determines Faces.tag.mutually.ended Faces.tag.mutually.Reads.Post
+face-mutually κs a x y p q = part p q refl
 
-pub face-error-type : (f : Face) → Determines (λ (r : ℕ). r ≡ errorType f)
-face-error-type f = value _
+pub face-error-type : Determines Faces.tag.error_type.ended Faces.tag.error_type.Reads.Post
+face-error-type κs a x y p q = part p q refl
 
-pub stage-number : (stage : Stage) → Determines (λ (r : ℕ). r ≡ stageNumber stage)
-stage-number stage = value _
+pub stage-number : Determines Faces.Stage.number.ended Faces.Stage.number.Reads.Post
+stage-number κs a x y p q = part p q refl
 
-pub stage-row : (stage : Stage) → Determines (λ (r : StageRow). r ≡ stageRow stage)
-stage-row stage = value _
+pub stage-row : Determines Faces.reader.stage_row.ended Faces.reader.stage_row.Reads.Post
+stage-row κs a x y p q = part p q refl
 
-pub reader-fits : (f : ReaderFace) → Determines (λ (r : Bool). r ≡ readerFits f)
-reader-fits f = value _
+pub reader-fits : Determines Faces.reader.face_fits.ended Faces.reader.face_fits.Reads.Post
+reader-fits κs a x y p q = part p q refl
 
-pub reader-bare : (f : ReaderFace) → Determines (λ (r : Bool). r ≡ readerBare f)
-reader-bare f = value _
+pub reader-bare : Determines Faces.reader.bare.ended Faces.reader.bare.Reads.Post
+reader-bare κs a x y p q = part p q refl
 
 -- ---- rules
 
-pub if-sound : (sound : Bool) (v : Verdict) → Determines (λ (r : Verdict). r ≡ ifSound sound v)
-if-sound sound v = value _
+pub if-sound : Determines Rules.if_sound.ended Rules.if_sound.Reads.Post
+if-sound κs a x y p q = part p q refl
 
-pub message-shown : (kind : ℕ) (payload : List ℕ) (count room : ℕ) → Determines (λ (r : ShownMessage). r ≡ messageShown (record { kind = kind; payload = payload; count = count }) room)
-message-shown kind payload count room = value _
+pub message-shown : Determines Rules.message_shown.ended Rules.message_shown.Reads.Post
+message-shown κs a x y p q = part p q refl
 
-pub answer-number : (a : Answer) → Determines (λ (r : ℕ). r ≡ numberOf a)
-answer-number a = value _
+pub answer-number : Determines Rules.Answer.number.ended Rules.Answer.number.Reads.Post
+answer-number κs a x y p q = part p q refl
 
-pub key-under : (kind keyid : ℕ) (book : List ℕ) → Determines (λ (r : List ℕ). r ≡ Tag.keyUnder kind keyid book)
-key-under kind keyid book = value _
+pub key-under : DeterminesShown Rules.tag.key_under.ended Rules.tag.key_under.Reads.Post (λ κs r. r .now)
+key-under κs a x y p q = (p ∙ sym q, refl)
 
-pub command-verdict : (f : Face) (p : Shown) → Determines (λ (r : Verdict). r ≡ Tag.commandVerdict f p)
-command-verdict f p = value _
+pub command-verdict : Determines Rules.tag.command_verdict.ended Rules.tag.command_verdict.Reads.Post
+command-verdict κs a x y p q = part p q refl
 
-pub command-work : (f : Face) (kind : ℕ) → Determines (λ (r : Work). r ≡ Tag.commandWork f kind)
-command-work f kind = value _
+pub command-work : Determines Rules.tag.command_work.ended Rules.tag.command_work.Reads.Post
+command-work κs a x y p q = part p q refl
 
-pub response-verdict : (f : Face) (p : ShownMessage) → Determines (λ (r : Verdict). r ≡ Tag.responseVerdict f p)
-response-verdict f p = value _
+pub response-verdict : Determines Rules.tag.response_verdict.ended Rules.tag.response_verdict.Reads.Post
+response-verdict κs a x y p q = part p q refl
 
-pub reply-shown : (payload : List ℕ) (count room : ℕ) → Determines (λ (r : ShownReply). r ≡ Reader.replyShown payload count room)
-reply-shown payload count room = value _
+pub reply-shown : Determines Rules.reader.reply_shown.ended Rules.reader.reply_shown.Reads.Post
+reply-shown κs a x y p q = part p q refl
 
-pub begin-verdict : (f : ReaderFace) (p : ShownBegin) → Determines (λ (r : Verdict). r ≡ Reader.beginVerdict f p)
-begin-verdict f p = value _
+pub begin-verdict : Determines Rules.reader.begin_verdict.ended Rules.reader.begin_verdict.Reads.Post
+begin-verdict κs a x y p q = part p q refl
 
-pub reply-verdict : (f : ReaderFace) (p : ShownReply) → Determines (λ (r : Verdict). r ≡ Reader.replyVerdict f p)
-reply-verdict f p = value _
+pub reply-verdict : Determines Rules.reader.reply_verdict.ended Rules.reader.reply_verdict.Reads.Post
+reply-verdict κs a x y p q = part p q refl
 
-pub reply-work : (f : ReaderFace) (status : ℕ) → Determines (λ (r : ReplyWork). r ≡ Reader.replyWork f status)
-reply-work f status = value _
+pub reply-work : Determines Rules.reader.reply_work.ended Rules.reader.reply_work.Reads.Post
+reply-work κs a x y p q = part p q refl
 
-pub send-verdict : (f : ReaderFace) (p : ShownMessage) → Determines (λ (r : Verdict). r ≡ Reader.sendVerdict f p)
-send-verdict f p = value _
+pub send-verdict : Determines Rules.reader.send_verdict.ended Rules.reader.send_verdict.Reads.Post
+send-verdict κs a x y p q = part p q refl
 
-pub receive-verdict : (f : ReaderFace) (p : ShownMessage) (zeros : Bool) → Determines (λ (r : Verdict). r ≡ Reader.receiveVerdict f p zeros)
-receive-verdict f p zeros = value _
+pub receive-verdict : Determines Rules.reader.receive_verdict.ended Rules.reader.receive_verdict.Reads.Post
+receive-verdict κs a x y p q = part p q refl
