@@ -24,6 +24,7 @@ use Rattle.promises.specs.Machines.{Given, TagMachine, ReaderMachine}
 use Rattle.promises.specs.Order.{Checks, firstOf, closes, Leads, noSession, noEngine, sessionRight, Worked, done, failed, Answered}
 use Rattle.promises.specs.TagTable.{closing, opened, holdsNothing, faceFits, commandLeads, commandChecks}
 use Rattle.promises.specs.Demand1.{Demand1Tag, Demand1Reader}
+use Rattle.promises.proofs.Ordered.{not-true}
 use Rattle.promises.proofs.TagRows.{fits-same}
 
 -- ---- the order
@@ -104,10 +105,6 @@ module _ {S F : Type 0} {face : S → F} {isSound : S → Bool} {checks : Checks
       after : Worked face isSound p g (a .reply) → isSound (g .next) ≡ true
       after (done k) = k .sound
       after (failed k) = k .sound
-
-unsound : (b : Bool) → not b ≡ true → b ≡ false
-unsound true h = absurd (true≢false (sym h))
-unsound false h = refl
 
 -- ---- the tag
 
@@ -203,13 +200,13 @@ module _ (m : TagMachine) (d : Demand1Tag m) where
   command-8 s c b h = eight (d .answers .command s c b) (ap not h)
 
   pub command-only-8 : (s : m .State) (c : Command) (b : List ℕ) → m .command s c b .answer ≡ 8 → m .sound s ≡ false
-  command-only-8 s c b h = unsound _ (eight-only (d .answers .command s c b) h)
+  command-only-8 s c b h = not-true _ (eight-only (d .answers .command s c b) h)
 
   pub response-8 : (s : m .State) (c : Message) (b : List ℕ) → m .sound s ≡ false → m .response s c b .answer ≡ 8
   response-8 s c b h = eight (d .answers .response s c b) (ap not h)
 
   pub response-only-8 : (s : m .State) (c : Message) (b : List ℕ) → m .response s c b .answer ≡ 8 → m .sound s ≡ false
-  response-only-8 s c b h = unsound _ (eight-only (d .answers .response s c b) h)
+  response-only-8 s c b h = not-true _ (eight-only (d .answers .response s c b) h)
 
   pub command-sound : (s : m .State) (c : Command) (b : List ℕ) → m .sound s ≡ true → m .sound (m .command s c b .next) ≡ true
   command-sound s c b h = sound-stays (d .answers .command s c b) h (close-sound-stays s h)

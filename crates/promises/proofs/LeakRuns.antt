@@ -1,6 +1,6 @@
 -- Runs that show a leak: commands that differ in what is not public, from reset through step 0. Assumes nothing.
-use mathlib.Core.Path.{_≡_, refl}
-use mathlib.Core.Bool.{true, false}
+use mathlib.Core.Path.{_≡_, refl, sym}
+use mathlib.Core.Bool.{Bool, true, false, not, true≢false}
 use mathlib.Core.List.{List, [], _∷_}
 use Prim.Native.Nat.{ℕ, _+_, _*_, _≤_, _<_}
 use lib.ListN.{length, take, replicate}
@@ -64,6 +64,11 @@ alike-but w n k l kind xs ys count size authentication zeros = record {
 -- in their keys alone
 pub alike-keys : (w n k l kind : ℕ) (xs : List ℕ) (count : ℕ) → AlikeCommands w (called n k kind xs count) (called n l kind xs count) buffer buffer
 alike-keys w n k l kind xs count = alike-but w n k l kind xs xs count refl (λ z. refl) (λ z p q. refl)
+
+-- a bit is not the other one
+pub differ : (c : Bool) → c ≡ not c → ⊥
+differ true h = true≢false h
+differ false h = true≢false (sym h)
 
 -- what is claimed of runs from reset
 pub from-reset : (M : TagMachine) → Demand3 M → (ps : List (Demand3.Call × Demand3.Call))

@@ -34,7 +34,7 @@ use Rattle.promises.specs.Demand3 as Demand3
 use Rattle.promises.specs.Demand3.{AlikeCommands, commands, tagRuns, Demand3}
 use Rattle.promises.specs.Leaky.{onMismatch, withInput, leavesInput, agreed, expected, placed, withPlace, keepsPlace, Knowing, keepsKey}
 use Rattle.promises.proofs.Comparisons.{order-of}
-use Rattle.promises.proofs.LeakRuns.{buffer, called, call, keyed, alike-but, alike-keys, from-reset, opening, engine, opens}
+use Rattle.promises.proofs.LeakRuns.{differ, buffer, called, call, keyed, alike-but, alike-keys, from-reset, opening, engine, opens}
 
 -- ---- IA's step 1, with a guess of the keystream whose first byte is x and whose others are 0
 
@@ -99,10 +99,6 @@ module _ (change : TagState → Command → List ℕ → Given TagState → Give
 
 wrong : (k x i : ℕ) (b : Bool) → digit i (word k) ≡ b → digit i (asked x) ≡ not b → Wrong k x
 wrong k x i b e f = ne-eqb _ _ (λ q. differ b (sym e ∙ ap (digit i) q ∙ f))
-  where
-    differ : (c : Bool) → c ≡ not c → ⊥
-    differ true h = true≢false h
-    differ false h = true≢false (sym h)
 
 abbrev third : List ℕ → ℕ
 third l = getD l 2 0

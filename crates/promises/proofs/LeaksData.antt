@@ -1,6 +1,6 @@
 -- Demand 3 has force: a tag that leaves what it decrypted of a message with a wrong MAC is refuted. Assumes nothing.
 use mathlib.Core.Path.{_≡_, refl, sym, ap, _∙_}
-use mathlib.Core.Bool.{Bool, true, false, not, true≢false}
+use mathlib.Core.Bool.{Bool, Bool·not-not, true, false, not}
 use mathlib.Core.List.{List, [], _∷_}
 use Prim.Native.Nat.{ℕ, _*_, _^_, _<_}
 use native.Mathlib.Omega.{arith}
@@ -40,7 +40,7 @@ use Rattle.promises.specs.Demand3 as Demand3
 use Rattle.promises.specs.Demand3.{AlikeCommands, commands, Demand3}
 use Rattle.promises.specs.Leaky.{leavesDecrypted}
 use Rattle.promises.proofs.Comparisons.{order-of}
-use Rattle.promises.proofs.LeakRuns.{buffer, called, call, alike-but, alike-keys, from-reset, opening, engine, opens}
+use Rattle.promises.proofs.LeakRuns.{differ, buffer, called, call, alike-but, alike-keys, from-reset, opening, engine, opens}
 
 -- ---- MA up to the open tag, with secure messages and a MAC of 32 bits
 
@@ -135,10 +135,6 @@ right a = afterMessage Mac32 (a ∷ []) spoken .acc
 wrong-mac : (a m : Bool) → digit 31 (right a) ≡ not m → sameMac Mac32 (bits a m) 41 spoken ≡ false
 unfolding sameMac
 wrong-mac a m e = rw (data-bit a m) (ne-eqb _ _ (λ q. differ m (sym (sym e ∙ ap (digit 31) q ∙ mac-bit a m))))
-  where
-    differ : (c : Bool) → c ≡ not c → ⊥
-    differ true h = true≢false h
-    differ false h = true≢false (sym h)
 
 mismatch : (a m : Bool) → digit 31 (right a) ≡ not m → commandOf ready (secret a m) 265 ≡ refusedBy (closedTag ready) Mismatch
 unfolding commandOf carriedOf decided commandWork workedOf shownOf receiveOf comparedBy
@@ -177,8 +173,4 @@ apart e = at (Mac.keyBit (Stored.macOf 32 spoken .st)) (ap (λ (l : List ℕ). g
     at false h = omega (arith, h)
 
 pub leaves-decrypted : Demand3 leavesDecrypted → ⊥
-leaves-decrypted d = apart (both d (not (digit 31 (right false))) (not (digit 31 (right true))) (twice _) (twice _))
-  where
-    twice : (b : Bool) → b ≡ not (not b)
-    twice true = refl
-    twice false = refl
+leaves-decrypted d = apart (both d (not (digit 31 (right false))) (not (digit 31 (right true))) (sym (Bool·not-not _)) (sym (Bool·not-not _)))

@@ -60,7 +60,7 @@ unfolding ifSound verdictOf closingOf
 always-right true k c = simp (of-cond right, cond-same)
 always-right false k c = refl
 
-not-true : (x : Bool) → not x ≡ true → x ≡ false
+pub not-true : (x : Bool) → not x ≡ true → x ≡ false
 not-true true h = absurd (true≢false (sym h))
 not-true false h = refl
 

@@ -1,7 +1,7 @@
 -- IA and MA from step 1 on, call by call: what each says, and that of the words that come to be compared one alone is taken. Assumes
 -- nothing.
 use mathlib.Core.Path.{_≡_, refl, ap, _∙_}
-use mathlib.Core.Bool.{Bool, true, false, cond, not, _&&_, _||_}
+use mathlib.Core.Bool.{Bool, Bool·not-not, true, false, cond, not, _&&_, _||_}
 use mathlib.Core.List.{List, []}
 use Prim.Native.Nat.{ℕ, _*_, _^_, _≤_, _<_}
 use native.Mathlib.Omega.{arith}
@@ -71,11 +71,7 @@ module _ (s : Setting) (h : Honest s) (b : Bool) (m : s .method ≡ cond b 2 1) 
   pub starts-later : said (startedBy (s .method) (s .keyid) (beginOptions (s .method) (s .options)) (s .features) (s .tagNumber) (engine s h))
       ≡ doneBy waiting (challengeBits s (s .features))
   unfolding startedBy layoutOf
-  starts-later = rw (not-ta, ia-alone, not-not b)
-    where
-      not-not : (x : Bool) → not (not x) ≡ x
-      not-not true = refl
-      not-not false = refl
+  starts-later = rw (not-ta, ia-alone, Bool·not-not b)
 
   abbrev pub proving : ReaderState
   proving = filledReader false (asking s h) (proved s)

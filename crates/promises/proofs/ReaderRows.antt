@@ -1,6 +1,6 @@
 -- The demand's table of the reader and that of `rules` say the same, stage by stage: a call is refused by the same check. Assumes nothing.
 use mathlib.Core.Path.{_≡_, refl, sym, ap, _∙_}
-use mathlib.Core.Bool.{Bool, true, false, not, cond, _&&_, _||_, and-true, or-false}
+use mathlib.Core.Bool.{Bool, Bool·not-not, true, false, not, cond, _&&_, _||_, and-true, or-false}
 use mathlib.Core.List.{List}
 use Prim.Native.Nat.{ℕ}
 use lib.Dec.{eqb, ltb}
@@ -54,11 +54,7 @@ features-row : (n : Stage) (x o : ℕ) → (stageRow n .asked && not (supports x
 features-row n x o = every (λ n. (stageRow n .asked && not (supports x o)) ≡ not (featuresRight n x o)) refl refl refl refl refl n
 
 pub status-row : (n : Stage) (s : ℕ) → (stageRow n .proving && eqb s 1) ≡ not (statusRight n s)
-status-row n s = every (λ n. (stageRow n .proving && eqb s 1) ≡ not (statusRight n s)) refl refl (sym (twice (eqb s 1))) refl refl n
-  where
-    twice : (b : Bool) → not (not b) ≡ b
-    twice true = refl
-    twice false = refl
+status-row n s = every (λ n. (stageRow n .proving && eqb s 1) ≡ not (statusRight n s)) refl refl (sym (Bool·not-not (eqb s 1))) refl refl n
 
 -- ---- the faces
 

@@ -23,12 +23,8 @@ use Rattle.machines.specs.TagWork.{startedBy, failed, workedOf, sendOf}
 use Rattle.promises.specs.Machines.{Given, TagMachine}
 use Rattle.promises.specs.Ours.{given, ourTag}
 use Rattle.promises.specs.Demand1.{withSlice}
-use Rattle.promises.specs.Wrong.{passes, bare, withCalls, withCommand, takesAny, takesAnyMac}
+use Rattle.promises.specs.Wrong.{movedTo, passes, bare, withCalls, withCommand, takesAny, takesAnyMac}
 use Rattle.promises.specs.WrongRules.{judgedBy}
-
--- another next state
-abbrev pub movedTo : {S T : Type 0} → T → Given S → Given T
-movedTo next g = record { next = next; answer = g .answer; bits = g .bits; buffer = g .buffer }
 
 -- ---- ours, and something beside it: "a stored state" has no more than the table says
 

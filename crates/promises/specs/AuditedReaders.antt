@@ -24,13 +24,9 @@ use Rattle.promises.specs.Machines.{Given, ReaderMachine}
 use Rattle.promises.specs.Order.{closes}
 use Rattle.promises.specs.Ours.{given, ourReader}
 use Rattle.promises.specs.Demand1.{messageWith}
-use Rattle.promises.specs.Wrong.{passes, anyWord}
-use Rattle.promises.specs.WrongReaders.{taWith, withTaken}
-use Rattle.promises.specs.Audited.{movedTo, saidTurned, readTurned}
-
--- ours, but for the authentication responses that come to it
-abbrev pub withReplied : (ReaderState → List ℕ → ℕ → List ℕ → Given ReaderState) → ReaderMachine
-withReplied replied = withTaken replied (ourReader .send) (ourReader .receive)
+use Rattle.promises.specs.Wrong.{movedTo, passes, anyWord}
+use Rattle.promises.specs.WrongReaders.{withReplied, taWith, withTaken}
+use Rattle.promises.specs.Audited.{saidTurned, readTurned}
 
 -- ---- features: "Received features must support the chosen options", and the method's own bit is the tag's to hold
 

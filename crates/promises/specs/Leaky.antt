@@ -18,24 +18,11 @@ use Rattle.states.specs.TagStates.{faceOf, secretsOf, tagOf}
 use Rattle.promises.specs.Machines.{Given, TagMachine}
 use Rattle.promises.specs.Silence.{replyOf}
 use Rattle.promises.specs.Ours.{ourTag}
+use Rattle.promises.specs.Wrong.{withCommand, answering}
 
 -- ours, but that what a command gives is changed
 abbrev pub changing : (TagState → Command → List ℕ → Given TagState → Given TagState) → TagMachine
-changing change = record {
-  State = TagState;
-  reset = ourTag .reset;
-  command = λ t c buffer. change t c buffer (ourTag .command t c buffer);
-  response = ourTag .response;
-  close = ourTag .close;
-  errorType = ourTag .errorType;
-  face = ourTag .face;
-  session = ourTag .session;
-  sound = ourTag .sound;
-}
-
--- with another answer
-abbrev pub answering : ℕ → Given TagState → Given TagState
-answering answer g = record { next = g .next; answer = answer; bits = g .bits; buffer = g .buffer }
+changing change = withCommand (λ t c buffer. change t c buffer (ourTag .command t c buffer))
 
 -- with other bits in the place of the reply
 abbrev pub replying : List Bool → List ℕ → Given TagState → Given TagState

@@ -41,6 +41,10 @@ withCommand command = withCalls command (ourTag .response)
 
 -- ---- answers and counts
 
+-- another next state
+abbrev pub movedTo : {S T : Type 0} → T → Given S → Given T
+movedTo next g = record { next = next; answer = g .answer; bits = g .bits; buffer = g .buffer }
+
 -- an answer with no bits
 abbrev pub bare : TagState → ℕ → List ℕ → Given TagState
 bare t answer buffer = record { next = t; answer = answer; bits = 0; buffer = shown [] buffer }

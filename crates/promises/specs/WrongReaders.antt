@@ -34,6 +34,10 @@ withTaken replied send receive = record {
   sound = ourReader .sound;
 }
 
+-- ours, but for the authentication responses that come to it
+abbrev pub withReplied : (ReaderState → List ℕ → ℕ → List ℕ → Given ReaderState) → ReaderMachine
+withReplied replied = withTaken replied (ourReader .send) (ourReader .receive)
+
 -- TA's response at a reader that compares by `same`
 abbrev pub taWith : (ℕ → ℕ → Bool) → ReaderState → List Bool → Result ReaderState
 taWith same r l =

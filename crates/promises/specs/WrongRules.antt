@@ -28,8 +28,9 @@ use Rattle.states.specs.ReaderStates.{readerFaceOf, readerSound, closedReader}
 use Rattle.machines.specs.TagWork.{workedOf}
 use Rattle.machines.specs.ReaderWork.{answeredBy}
 use Rattle.promises.specs.Machines.{TagMachine, ReaderMachine}
-use Rattle.promises.specs.Ours.{given, ourTag, ourReader}
-use Rattle.promises.specs.Wrong.{withCommand}
+use Rattle.promises.specs.Ours.{given, ourTag}
+use Rattle.promises.specs.Wrong.{movedTo, withCommand}
+use Rattle.promises.specs.WrongReaders.{withReplied}
 
 -- ---- the tag's checks
 
@@ -51,7 +52,7 @@ abbrev pub commCloses : TagMachine
 commCloses = judgedBy verdictOf (λ row f p. let k = commandKeeping row f p in
     record { buffer = k .buffer; argument = k .argument; book = k .book; error = k .error; work = false }) commandClosing
 
--- closed checks with another length, or another KeyID
+-- closing checks with another length
 abbrev pub withLength : Bool → Closing → Closing
 withLength wrong c = record { kind = c .kind; length = wrong; step = c .step; key = c .key; support = c .support }
 
@@ -70,14 +71,14 @@ anyKeyId = judgedBy verdictOf commandKeeping (λ row f p. withKey (eqb (p .kind)
 
 -- ---- what the tag leaves
 
--- ours, but for what it closes to, and its error type
-abbrev pub withClose : (TagState → TagState) → (TagState → ℕ) → TagMachine
-withClose close errorType = record {
+-- ours, but for its error type
+abbrev pub withErrorType : (TagState → ℕ) → TagMachine
+withErrorType errorType = record {
   State = TagState;
   reset = ourTag .reset;
   command = ourTag .command;
   response = ourTag .response;
-  close = close;
+  close = ourTag .close;
   errorType = errorType;
   face = ourTag .face;
   session = ourTag .session;
@@ -86,36 +87,26 @@ withClose close errorType = record {
 
 -- error types 2 and 3 exchanged
 abbrev pub errorsExchanged : TagMachine
-errorsExchanged = withClose closedTag (λ t. let n = ourTag .errorType t in cond (eqb n 2) 3 (cond (eqb n 3) 2 n))
+errorsExchanged = withErrorType (λ t. let n = ourTag .errorType t in cond (eqb n 2) 3 (cond (eqb n 3) 2 n))
 
 -- a failed step 1 stays in IA.1 or MA.1
 abbrev pub failedStays : TagMachine
 failedStays = withCommand (λ t c buffer.
     let g = ourTag .command t c buffer in
-    cond (eqb (g .answer) 10) (record { next = closedTag t; answer = g .answer; bits = g .bits; buffer = g .buffer }) g)
+    cond (eqb (g .answer) 10) (movedTo (closedTag t) g) g)
 
 -- ---- the reader's checks
 
 -- ours, but that an authentication response is judged by other checks
-abbrev pub repliesBy : (StageRow → ReaderFace → ShownReply → Closing) → ReaderMachine
-repliesBy closing = record {
-  State = ourReader .State;
-  reset = ourReader .reset;
-  begin = ourReader .begin;
-  replied = λ r payload count buffer.
-      let f = readerFaceOf r in
-      let p = replyShown payload count (length buffer) in
-      let l = bitsOfBytes payload in
-      given (decided (ifSound (readerSound r) (verdictOf (replyKeeping (stageRow (f .stage)) p) (closing (stageRow (f .stage)) f p))) r closedReader
-      (said (answeredBy (replyWork f (statusIn l)) r l))) buffer;
-  send = ourReader .send;
-  receive = ourReader .receive;
-  face = ourReader .face;
-  session = ourReader .session;
-  sound = ourReader .sound;
-}
+abbrev pub repliesJudgedBy : (StageRow → ReaderFace → ShownReply → Closing) → ReaderMachine
+repliesJudgedBy closing = withReplied (λ r payload count buffer.
+    let f = readerFaceOf r in
+    let p = replyShown payload count (length buffer) in
+    let l = bitsOfBytes payload in
+    given (decided (ifSound (readerSound r) (verdictOf (replyKeeping (stageRow (f .stage)) p) (closing (stageRow (f .stage)) f p))) r closedReader
+    (said (answeredBy (replyWork f (statusIn l)) r l))) buffer)
 
 -- the features that it receives are not held against the options
 abbrev pub featuresUnheld : ReaderMachine
-featuresUnheld = repliesBy (λ row f p. let c = replyClosing row f p in
+featuresUnheld = repliesJudgedBy (λ row f p. let c = replyClosing row f p in
     record { kind = c .kind; length = c .length; step = c .step; key = c .key; support = false })
