@@ -31,7 +31,8 @@ pub struct Found {
     pub step: bool,
     /// 5: "KeyID not in the book (step 0, begin), or not step 0's (step 1)"
     pub keyid: bool,
-    /// 4: "method unsupported, or options not as the payload rules ask"
+    /// 4: "method unsupported, or options not as the payload rules ask"; document
+    /// 02, Req 01: "the reader's 4 also covers the method, in its old place"
     pub support: bool,
 }
 

@@ -47,7 +47,9 @@ pub fn options_supported(options: u8, features: u8) -> bool {
     options < 4 && mac && messages
 }
 
-/// "features: bit 0 TA, 1 IA"; "MA needs no bit".
+/// "Features (Table 5): bit 0 TA, 1 IA"; "MA needs no bit". The tag asks it of its
+/// own features: "the method's own bit is held at step 0 only". The reader asks it
+/// of received ones (document 02, Req 01): "TA needs bit 0, IA bit 1, and MA none."
 pub fn method_supported(method: u8, features: u8) -> bool {
     match method {
         TA => features & 1 == 1,

@@ -148,14 +148,18 @@ impl<C: Cipher> Reader<C> {
         let first = self.stage == Stage::Step0Sent;
         let length = if first { self.first_wrong(&bits) } else { self.second_wrong(&bits) };
         let features = bits::field(&bits, 0, 8) as u8;
+        // "Received features must support the chosen options, else 4"; document 02,
+        // Req 01: "The reader is to hold them against the method too: TA needs bit
+        // 0, IA bit 1, and MA none."
+        let supported = payloads::method_supported(self.method, features)
+            && payloads::options_supported(self.options, features);
         let found = Found {
             state: self.earns_8(),
             buffer: reply.len() < REPLY_BYTES,
             input: bits::beyond(payload, count),
             work: !first && self.stage != Stage::Step1Sent,
             length,
-            // "Received features must support the chosen options, else 4"
-            support: first && !payloads::options_supported(self.options, features),
+            support: first && !supported,
             ..Found::default()
         };
         let (answer, bits) = match found.refusal() {

@@ -188,27 +188,12 @@ fn first_response_refusals() {
     for method in 0..3u8 {
         for options in 0..4u8 {
             let (reader, first) = step_0_sent(method, options);
-            let length = if method == 0 { 120 } else { 56 };
             let mut long = first.clone();
             long.extend([0; 20]);
             for count in [0, 1, 55, 57, 64, 65, 119, 121] {
                 closes(&reader, 6, |r| take(r, &long, count));
             }
             closes(&reader, 6, |r| take(r, &long, if method == 0 { 56 } else { 120 }));
-            for features in 0..=255u8 {
-                let bit = |place: u8| features >> place & 1 == 1;
-                let mac = if options & 1 == 1 { bit(3) } else { bit(2) };
-                let fits = mac && (options & 2 == 0 || bit(4));
-                let mut payload = long.clone();
-                payload[0] = features;
-                if fits {
-                    let reply = if method == 0 { 0 } else { 80 };
-                    done(take(&mut reader.clone(), &payload, length), reply);
-                } else {
-                    payload[14] ^= 1;
-                    closes(&reader, 4, |r| take(r, &payload, length));
-                }
-            }
             if method == 0 {
                 for bit in 8..120 {
                     let mut payload = first.clone();
@@ -216,6 +201,50 @@ fn first_response_refusals() {
                     closes(&reader, 10, |r| take(r, &payload, 120));
                 }
             }
+        }
+    }
+}
+
+/// 4 exactly where the method's bit or one of the options' is missing, behind a
+/// wrong length's 6 and before the comparison's 10.
+#[test]
+fn received_features() {
+    for method in 0..3u8 {
+        for options in 0..4u8 {
+            let (reader, first) = step_0_sent(method, options);
+            let (length, reply) = if method == 0 { (120, 0) } else { (56, 80) };
+            for features in 0..=255u8 {
+                let bit = |place: u8| features >> place & 1 == 1;
+                let own = [bit(0), bit(1), true][method as usize];
+                let mac = if options & 1 == 1 { bit(3) } else { bit(2) };
+                let mut payload = [&first[..], &[0xFF; 20]].concat();
+                payload[0] = features;
+                for count in [length - 1, length + 1] {
+                    closes(&reader, 6, |r| take(r, &payload, count));
+                }
+                if own && mac && (options & 2 == 0 || bit(4)) {
+                    done(take(&mut reader.clone(), &payload, length), reply);
+                } else {
+                    closes(&reader, 4, |r| take(r, &payload, length));
+                    payload[length / 8 - 1] ^= 1;
+                    closes(&reader, 4, |r| take(r, &payload, length));
+                }
+            }
+        }
+    }
+}
+
+/// "A lot of bought tags reported features without the TA bit, and our reader
+/// authenticated them all the same."
+#[test]
+fn bought_tags_without_the_ta_bit() {
+    for options in 0..4 {
+        let (reader, mut first) = step_0_sent(0, options);
+        assert_eq!(first[0], 0x1F);
+        done(take(&mut reader.clone(), &first, 120), 0);
+        for features in [0x1E, 0xFE] {
+            first[0] = features;
+            closes(&reader, 4, |r| take(r, &first, 120));
         }
     }
 }

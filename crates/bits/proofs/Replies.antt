@@ -2,13 +2,13 @@
 -- nothing.
 use mathlib.Core.Path.{_≡_, refl, sym, ap, ap₂, _∙_}
 use mathlib.Core.Bool.{Bool}
-use mathlib.Core.List.{List, [], _++_, append-assoc, append-nil}
-use Prim.Native.Nat.{ℕ, _+_, _-_, _*_, _≤_, min}
+use mathlib.Core.List.{List, [], _∷_, _++_, append-assoc, append-nil}
+use Prim.Native.Nat.{ℕ, zero, suc, _+_, _-_, _*_, _≤_, min}
 use native.Mathlib.Decide.{decLe}
 use native.Mathlib.Omega.{arith}
-use lib.ListN.{length, take, drop, length-take, take-append-drop, drop-of-length-le}
+use lib.ListN.{length, take, drop, replicate, length-take, take-append-drop, drop-of-length-le}
 use lib.Seq.{sets, take-at, take-all, drop-at}
-use Rattle.bits.specs.Bits.{bitsOf}
+use Rattle.bits.specs.Bits.{bitsOf, numOf}
 use Rattle.bits.specs.Bytes.{bitsOfBytes, bytesOf, padded, wordBits}
 use Rattle.bits.specs.Area.{areaBytes, areaOf, shown}
 use Rattle.bits.proofs.Numbers.{length-bitsOf}
@@ -68,6 +68,18 @@ area-shown l b = elim (decLe 265 (length b)) [ yes h ↦ long (omega arith) | no
 
     short : length b ≤ areaOf b → take 265 (bytesOf (areaOf b) l ++ drop (areaOf b) b) ≡ bytesOf (areaOf b) l
     short h = rw (drop-of-length-le b h, append-nil) (take-all 265 (bytesOf (areaOf b) l) (rw length-bytesOf (omega arith)))
+
+-- no bits: the area is zeros, and the bytes beyond it are as found
+zero-bytes : (n : ℕ) → bytesOf n [] ≡ replicate n 0
+unfolding bytesOf padded numOf
+zero-bytes zero = refl
+zero-bytes (suc n) = ap (λ (l : List ℕ). 0 ∷ l) (zero-bytes n)
+
+pub shown-none : (b : List ℕ) → areaBytes ≤ length b → shown [] b ≡ replicate areaBytes 0 ++ drop areaBytes b
+unfolding shown
+shown-none b h =
+    let e : areaOf b ≡ areaBytes = omega arith in
+    rw (e, zero-bytes)
 
 -- of the buffer it depends on the length alone
 pub area-same : (l : List Bool) (b e : List ℕ) → length b ≡ length e → take areaBytes (shown l b) ≡ take areaBytes (shown l e)

@@ -160,5 +160,8 @@ secure κs a x y p q = part p q refl
 pub supported : Determines Payloads.supported.ended Payloads.supported.Reads.Post
 supported κs a x y p q = part p q refl
 
+pub offered : Determines Payloads.offered.ended Payloads.offered.Reads.Post
+offered κs a x y p q = part p q refl
+
 pub start-supported : Determines Payloads.start_supported.ended Payloads.start_supported.Reads.Post
 start-supported κs a x y p q = part p q refl

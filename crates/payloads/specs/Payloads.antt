@@ -153,12 +153,14 @@ supports features options =
     && ((mac64 options && hasBit 3 features) || (not (mac64 options) && hasBit 2 features))
     && (not (securing options) || hasBit 4 features)
 
--- step 0: "the method's own bit is held at step 0 only", and "MA needs no bit"; options as TA asks, and "0000 for IA and MA"
+-- "the method's own bit"; document 02, Req 01: "TA needs bit 0, IA bit 1, and MA none"
+abbrev pub offers : ℕ → ℕ → Bool
+offers features method = (eqb method 0 && hasBit 0 features) || (eqb method 1 && hasBit 1 features) || eqb method 2
+
+-- step 0: "the method's own bit is held at step 0 only"; options as TA asks, and "0000 for IA and MA"
 abbrev pub supportsStart : ℕ → ℕ → ℕ → Bool
 supportsStart features method options =
-    (eqb method 0 && (hasBit 0 features && supports features options))
-    || (eqb method 1 && (hasBit 1 features && eqb options 0))
-    || (eqb method 2 && eqb options 0)
+    offers features method && ((eqb method 0 && supports features options) || (not (eqb method 0) && eqb options 0))
 
 -- ---- a payload in a lent slice
 

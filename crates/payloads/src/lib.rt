@@ -9,7 +9,7 @@ ghost use Rattle.bits.specs.Bits.{bitsOf};
 ghost use Rattle.bits.specs.Bytes.{bitsOfBytes, fieldOf};
 ghost use Rattle.bits.specs.Area.{shown};
 ghost use Rattle.payloads.specs.Parts.{Says};
-ghost use Rattle.payloads.specs.Payloads.{layoutOf, fieldsIn, featuresIn, statusIn, dataBits, zerosOf, lengthFits, macBits, securing, supports, supportsStart, beyondOf};
+ghost use Rattle.payloads.specs.Payloads.{layoutOf, fieldsIn, featuresIn, statusIn, dataBits, zerosOf, lengthFits, macBits, securing, supports, offers, supportsStart, beyondOf};
 
 // No message has more data bits.
 pub const DATA_BITS: usize = 2048;
@@ -224,14 +224,20 @@ pub fn supported(features: u8, options: u8) -> bool
     (options < 4) & ((wide & mac64) | (!wide & mac32)) & (!secure | offered)
 }
 
+// Whether features offer a method: its own bit.
+pub fn offered(features: u8, method: u8) -> bool
+    ensures { λ r. ⌜ r ≡ offers features method ⌝ }
+{
+    let ta = (features >> 0) % 2 == 1;
+    let ia = (features >> 1) % 2 == 1;
+    ((method == 0) & ta) | ((method == 1) & ia) | (method == 2)
+}
+
 // Whether they support a method's step 0.
 pub fn start_supported(features: u8, method: u8, options: u8) -> bool
     ensures { λ r. ⌜ r ≡ supportsStart features method options ⌝ }
 {
-    let ta = (features >> 0) % 2 == 1;
-    let ia = (features >> 1) % 2 == 1;
-    let good = supported(features, options);
-    ((method == 0) & (ta & good))
-        | ((method == 1) & (ia & (options == 0)))
-        | ((method == 2) & (options == 0))
+    let own = offered(features, method);
+    let chosen = supported(features, options);
+    own & (((method == 0) & chosen) | (!(method == 0) & (options == 0)))
 }

@@ -60,7 +60,7 @@ asked = waiting ia (later-honest false) false refl
 
 started : commandOf resetTag
     (record { kind = 0; payload = sliceOf (stepZeroBits ia); count = 64; features = 31; book = book; number = 0 }) 265
-    ≡ doneBy asked (challengeBits ia 31)
+    ≡ doneBy asked (challengeBits ia)
 started =
     let e = starts ia (later-honest false) (sliceOf (stepZeroBits ia)) 265 (omega arith) (carried _ (zero-short ia)) in
     rw length-zero at (e ∙ starts-later ia (later-honest false) false refl)

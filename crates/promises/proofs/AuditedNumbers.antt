@@ -1,7 +1,7 @@
 -- Demand 2 has force over the start: whatever the reader, it holds of no tag that starts the cipher with the two numbers exchanged, though
 -- one that does so too takes what it says. Assumes nothing.
 use mathlib.Core.Path.{_≡_, refl, sym, ap, _∙_}
-use mathlib.Core.Bool.{Bool, true, false, true≢false}
+use mathlib.Core.Bool.{Bool, false, true≢false}
 use mathlib.Core.List.{List, []}
 use Prim.Native.Nat.{ℕ}
 use native.Mathlib.Omega.{arith}
@@ -28,7 +28,7 @@ use Rattle.promises.specs.Transcript.{begunMac, firstWord, openMac, step
 use Rattle.promises.specs.Demand2.{Says, Demand2}
 use Rattle.promises.specs.Audited.{startedExchanged, exchangedTag}
 use Rattle.promises.specs.AuditedReaders.{exchangedReader}
-use Rattle.promises.proofs.Sessions.{met-with, one-byte}
+use Rattle.promises.proofs.Sessions.{met-with}
 use Rattle.promises.proofs.Transcripts.{first-is, first-small, word-stored, begun-whole, filled-is}
 use Rattle.promises.proofs.Talking.{tagAt}
 use Rattle.promises.proofs.Opening.{asking, starts, starts-ta, compares}
@@ -65,7 +65,7 @@ abbrev command : Command
 command = record { kind = 0; payload = sliceOf (stepZeroBits own); count = 64; features = 31; book = book; number = 0 }
 
 -- ours takes it
-taken : commandOf resetTag command 265 ≡ doneBy (tagAt own (openMac own)) (tagProofBits own 31 (firstWord own))
+taken : commandOf resetTag command 265 ≡ doneBy (tagAt own (openMac own)) (tagProofBits own (firstWord own))
 taken =
     let e = starts own own-honest (sliceOf (stepZeroBits own)) 265 (omega arith) (carried _ (zero-short own)) in
     rw length-zero at (e ∙ starts-ta own own-honest refl)
@@ -84,7 +84,7 @@ proof-carried k = rw length-proof at (carried (tagProof 31 0 k) (rw length-proof
 
 pub exchanges-numbers : (R : ReaderMachine) → Demand2 R exchangedTag → ⊥
 exchanges-numbers R d =
-    let said : Says (answered R exchangedTag own) (tagProofBits own 31 (firstWord own))
+    let said : Says (answered R exchangedTag own) (tagProofBits own (firstWord own))
     = d own own-honest [] [] .step buffer buffer (sliceOf (stepZeroBits own)) (omega arith) (omega arith) (carried _ (zero-short own)) .0 in
     let same = sym (proof-carried (firstWord other)) ∙ (rw (length-zero, taken, exchanged, length-proof) at (said .same)) in
     words-differ
@@ -104,8 +104,7 @@ exchanged-talk =
     let p = sliceOf (tagProof 31 0 k) in
     let l = bitsOfBytes p in
     let c = carried (tagProof 31 0 k) (rw length-proof (omega arith)) in
-    let q = one-byte 0 0 2 0 book (omega arith) in
-    let ten = rw length-proof at (compares own own-honest 31 q p 265 (omega arith) refl k (first-small other) c) in
+    let ten = rw length-proof at (compares own own-honest p 265 (omega arith) refl k (first-small other) c) in
     let number = field-of 8 48 120 l _ (proof-carried k) (omega arith) ∙ proof-number 31 0 k (omega arith) in
     let word = field-of 56 64 120 l _ (proof-carried k) (omega arith) ∙ proof-keystream 31 0 k (first-small other) in
     let w = begun-whole other other-honest in

@@ -1,9 +1,10 @@
 -- Demands 1 and 2 have force: readers that go wrong where features lack a bit, on a refusal or at reset are refuted. Assumes nothing.
 use mathlib.Core.Path.{_≡_, refl, sym, ap, _∙_}
-use mathlib.Core.Bool.{Bool, true, false, true≢false}
+use mathlib.Core.Bool.{Bool, true, false, cond, true≢false}
 use mathlib.Core.List.{List, [], _∷_, _++_}
 use Prim.Native.Nat.{ℕ, _^_, _<_}
 use native.Mathlib.Omega.{arith}
+use lib.Dec.{eqb}
 use lib.ListN.{length, take, getD, length-append}
 use Rattle.bits.specs.Bits.{bitsOf, digit, numOf}
 use Rattle.bits.specs.Bytes.{bitsOfBytes, padded, fieldOf}
@@ -15,7 +16,7 @@ use Rattle.book.specs.Book as Book
 use Rattle.grain.specs.Mac.{keystream}
 use Rattle.grain.proofs.Back.{word-back}
 use Rattle.grain.proofs.Runs.{length-keystream}
-use Rattle.payloads.specs.Payloads.{featuresIn}
+use Rattle.payloads.specs.Payloads.{featuresIn, supportsStart}
 use Rattle.payloads.proofs.Layouts.{length-proof, length-challenge, length-one}
 use Rattle.payloads.proofs.Reading.{proof-features, challenge-features, one-fields}
 use Rattle.faces.specs.declared.ReaderFace.{ReaderFace}
@@ -32,57 +33,97 @@ use Rattle.states.proofs.ReaderStates.{face-asked, secrets-asked}
 use Rattle.machines.specs.ReaderWork.{beginOf, repliedOf, answeredBy}
 use Rattle.promises.specs.Machines.{TagMachine}
 use Rattle.promises.specs.Ours.{given, ourReader}
-use Rattle.promises.specs.Settings.{Setting, Supporting}
-use Rattle.promises.specs.Transcript.{begunMac, firstWord, stepZeroBits, tagProofBits, challengeBits, stepOneBits}
+use Rattle.promises.specs.Settings.{Setting, Honest, Supporting}
+use Rattle.promises.specs.Transcript.{begun, begunMac, firstWord, tagProofBits, challengeBits, stepOneBits}
 use Rattle.promises.specs.Order.{firstOf}
 use Rattle.promises.specs.ReaderTable.{isIdle, isOpen}
 use Rattle.promises.specs.Demand1.{Demand1Reader}
 use Rattle.promises.specs.Demand2.{ReaderProves, Demand2}
 use Rattle.promises.specs.Wrong.{anyWord}
 use Rattle.promises.specs.WrongReaders.{taWith}
-use Rattle.promises.specs.AuditedReaders.{blindWithoutBit, keySpills, closesBegin, takesOneBit, statusOpens, resetKeeps}
+use Rattle.promises.specs.AuditedReaders.{blindWithoutIa, keySpills, closesBegin, takesOneBit, statusOpens, resetKeeps}
 use Rattle.promises.proofs.Transcripts.{first-is, first-small, key}
 use Rattle.promises.proofs.Opening.{begins}
 use Rattle.promises.proofs.Proving.{answers}
-use Rattle.promises.proofs.Delivery.{zero-short}
 use Rattle.promises.proofs.ComputedIa.{ia-first}
-use Rattle.promises.proofs.Refuted.{setting, later, later-honest, buffer, sliceOf, carried, another, differs, asked, answered, tag-proves}
+use Rattle.promises.proofs.Refuted.{setting, honest, later, later-honest, buffer, sliceOf, carried, another, differs, asked, answered, step}
 use Rattle.promises.proofs.Comparing.{taken, matched-done}
 
--- ---- TA's response with another word, its features MAC32's and MAC64's bits alone
+-- ---- features that offer the method, and not all else
 
-lacking : Supporting setting 12
-lacking = record { byte = omega arith; options = refl }
+abbrev under : ℕ → Setting → Setting
+under features s = record {
+  method = s .method;
+  options = s .options;
+  keyid = s .keyid;
+  features = features;
+  readerNumber = s .readerNumber;
+  tagNumber = s .tagNumber;
+  readerBook = s .readerBook;
+  tagBook = s .tagBook;
+}
 
-pub blind-without-bit : (T : TagMachine) → Demand2 blindWithoutBit T → ⊥
-blind-without-bit T d =
-    let guess = another (firstWord setting) in
-    let l = tagProofBits setting 12 guess in
+under-honest : (x : ℕ) (s : Setting) → Honest s → x < 256 → supportsStart x (s .method) (cond (eqb (s .method) 0) (s .options) 0) ≡ true → Honest (under x s)
+under-honest x s h small offered = record {
+  method = h .method;
+  options = h .options;
+  keyid = h .keyid;
+  features = small;
+  readerNumber = h .readerNumber;
+  tagNumber = h .tagNumber;
+  readerSound = h .readerSound;
+  tagSound = h .tagSound;
+  readerKnows = h .readerKnows;
+  tagKnows = h .tagKnows;
+  oneKey = h .oneKey;
+  offered = offered;
+}
+
+-- ---- TA's response with another word, its features without IA's bit
+
+abbrev ta : Setting
+ta = under 13 setting
+
+ta-honest : Honest ta
+ta-honest = under-honest 13 setting honest (omega arith) refl
+
+pub blind-without-ia : (T : TagMachine) → Demand2 blindWithoutIa T → ⊥
+blind-without-ia T d =
+    let guess = another (firstWord ta) in
+    let l = tagProofBits ta guess in
     let p = sliceOf l in
-    let other = differs 64 (firstWord setting) (omega arith) in
+    let other = differs 64 (firstWord ta) (omega arith) in
     let c = carried l (rw length-proof (omega arith)) in
-    let ten = tag-proves blindWithoutBit T d .refuses 12 guess buffer p lacking other (omega arith) c .0 in
-    let r = asked blindWithoutBit T setting .next in
-    let heard : featuresIn (bitsOfBytes p) ≡ 12
-    = field-of 0 8 120 (bitsOfBytes p) _ (rw length-proof at (c .same)) (omega arith) ∙ proof-features 12 0 guess (omega arith) in
+    let ten = step blindWithoutIa T d ta ta-honest .1 .refuses guess buffer p other (omega arith) c .0 in
+    let r = asked blindWithoutIa T ta .next in
+    let heard : featuresIn (bitsOfBytes p) ≡ 13
+    = field-of 0 8 120 (bitsOfBytes p) _ (rw length-proof at (c .same)) (omega arith) ∙ proof-features 13 0 guess (omega arith) in
     taken (ourReader .replied r p 120 buffer) (given (taWith anyWord r (bitsOfBytes p)) buffer) (matched-done _) (rw (length-proof, heard) at ten)
 
--- ---- IA's step 1 command, where the features heard lack IA's bit: "first 64 keystream bits" is not the key, whose bits are zeros
+-- ---- IA's step 1 command, its features without TA's bit: "first 64 keystream bits" is not the key, whose bits are zeros
 
 abbrev ia : Setting
-ia = later false
+ia = under 30 (later false)
 
-without : Supporting ia 29
-without = record { byte = omega arith; options = refl }
+ia-honest : Honest ia
+ia-honest = under-honest 30 (later false) (later-honest false) (omega arith) refl
+
+supporting : Supporting ia 30
+supporting = record { byte = omega arith; options = refl }
+
+-- its cipher is the one of all features
+same-mac : begunMac ia ≡ begunMac (later false)
+unfolding begunMac begun
+same-mac = refl
 
 word-not-zero : 0 ≡ firstWord ia → ⊥
 unfolding keystream
 word-not-zero e =
     let st = begunMac ia .st in
     let back = sym (bitsOf-zero 64) ∙ ap (bitsOf 64) (e ∙ first-is ia) ∙ word-back 64 (keystream 64 st) (length-keystream 64 st) in
-    true≢false (sym (ap (λ (l : List Bool). getD l 0 false) back ∙ ia-first))
+    true≢false (sym (ap (λ (l : List Bool). getD l 0 false) back ∙ rw same-mac ia-first))
 
-key-zero : key ia (later-honest false) .first ≡ 0
+key-zero : key ia ia-honest .first ≡ 0
 unfolding Book.keyOf Book.knownOf Book.idsOf Book.keyIds Book.placeIn bitsOfBytes bitsOf digit numOf padded fieldOf
 key-zero = refl
 
@@ -98,18 +139,17 @@ word-said p a b e h k same =
 
 pub key-spills : (T : TagMachine) → Demand2 keySpills T → ⊥
 key-spills T d =
-    let proves : ReaderProves keySpills T ia (asked keySpills T ia .next) (answered keySpills T ia .next)
-    = d ia (later-honest false) [] [] .step buffer buffer (sliceOf (stepZeroBits ia)) (omega arith) (omega arith) (carried _ (zero-short ia)) .1 in
-    let l = challengeBits ia 29 in
+    let proves : ReaderProves keySpills T ia (asked keySpills T ia .next) (answered keySpills T ia .next) = step keySpills T d ia ia-honest .1 in
+    let l = challengeBits ia in
     let own = stepOneBits ia (firstWord ia) in
     let c = carried l (rw length-challenge (omega arith)) in
-    let heard : featuresIn (bitsOfBytes (sliceOf l)) ≡ 29
-    = field-of 0 8 56 (bitsOfBytes (sliceOf l)) _ (rw length-challenge at (c .same)) (omega arith) ∙ challenge-features 29 0 (omega arith) in
-    let said = proves .takes 29 buffer (sliceOf l) without (omega arith) c .0 .same in
+    let heard : featuresIn (bitsOfBytes (sliceOf l)) ≡ 30
+    = field-of 0 8 56 (bitsOfBytes (sliceOf l)) _ (rw length-challenge at (c .same)) (omega arith) ∙ challenge-features 30 0 (omega arith) in
+    let said = proves .takes buffer (sliceOf l) supporting (omega arith) c .0 .same in
     let n : length own ≡ 80 = length-one 1 0 5 (firstWord ia) in
     let same = rw (
-      begins ia (later-honest false) 265 (omega arith),
-      answers ia (later-honest false) false refl 29 without (sliceOf l) 265 (omega arith) c,
+      begins ia ia-honest 265 (omega arith),
+      answers ia ia-honest false refl supporting (sliceOf l) 265 (omega arith) c,
       face-asked,
       secrets-asked,
       key-zero,

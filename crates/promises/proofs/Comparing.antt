@@ -30,7 +30,7 @@ use Rattle.promises.proofs.Transcripts.{first-small}
 use Rattle.promises.proofs.Opening.{starts}
 use Rattle.promises.proofs.Proving.{waiting, starts-later, proves-with}
 use Rattle.promises.proofs.Delivery.{zero-short}
-use Rattle.promises.proofs.Refuted.{setting, one-for, later, later-honest, buffer, sliceOf, carried, another, differs, guessing, opened, asked, answered, challenged, proved, tag-proves, ta-talks, both-prove, later-talks, tag-refuses}
+use Rattle.promises.proofs.Refuted.{setting, later, later-honest, buffer, sliceOf, carried, another, differs, guessing, opened, asked, answered, challenged, proved, tag-proves, ta-talks, both-prove, later-talks, tag-refuses}
 
 -- what is answered 0 wherever ours compares is never answered 10
 pub taken : {S : Type 0} (g h : Given S) → h .answer ≡ 0 → cond (passes g) h g .answer ≡ 10 → ⊥
@@ -60,7 +60,7 @@ module _ (same : ℕ → ℕ → Bool) (careless : (word : ℕ) → word < 2 ^ 6
   guess = lastFlipped (firstWord s)
 
   -- step 0 is ours
-  started : answered R (comparesBy same) s ≡ given (doneBy (waiting s (later-honest false) false refl) (challengeBits s 31)) buffer
+  started : answered R (comparesBy same) s ≡ given (doneBy (waiting s (later-honest false) false refl) (challengeBits s)) buffer
   started =
       rw (
         starts s (later-honest false) (sliceOf (stepZeroBits s)) 265 (omega arith) (carried _ (zero-short s))
@@ -95,9 +95,9 @@ matched-done next = refl
 pub believes-any : (T : TagMachine) → Demand2 believes T → ⊥
 believes-any T d =
     let guess = another (firstWord setting) in
-    let p = sliceOf (tagProofBits setting 31 guess) in
+    let p = sliceOf (tagProofBits setting guess) in
     let other = differs 64 (firstWord setting) (omega arith) in
-    let ten = tag-proves believes T d .refuses 31 guess buffer p (one-for 0) other (omega arith) (carried _ (rw length-proof (omega arith))) .0 in
+    let ten = tag-proves believes T d .refuses guess buffer p other (omega arith) (carried _ (rw length-proof (omega arith))) .0 in
     let r = asked believes T setting .next in
     taken (ourReader .replied r p 120 buffer) (given (taWith anyWord r (bitsOfBytes p)) buffer) (matched-done _) (rw length-proof at ten)
 

@@ -59,7 +59,7 @@ work-keeps c e = rw e (simp (of-cond keeping, cond-same))
 module _ {S F : Type 0} {face : S → F} {isSound : S → Bool} {checks : Checks} {p : Leads F} {s closed : S} {b : List ℕ} {g : Given S}
     (a : Answered face isSound checks p s closed b g) where
   -- refused, done or failed
-  by-answer : (P : Type 0) → ((firstOf checks ≡ 0 → ⊥) → P) → (firstOf checks ≡ 0 → Worked face isSound p g (a .reply) → P) → P
+  pub by-answer : (P : Type 0) → ((firstOf checks ≡ 0 → ⊥) → P) → (firstOf checks ≡ 0 → Worked face isSound p g (a .reply) → P) → P
   by-answer P refuses works = at (eqb (firstOf checks) 0) refl
     where
       at : (x : Bool) → eqb (firstOf checks) 0 ≡ x → P

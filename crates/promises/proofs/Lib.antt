@@ -12,6 +12,7 @@ pub mod Forgetting
 pub mod ReaderForgetting
 pub mod Answering
 pub mod Follows
+pub mod Offered
 pub mod Limits
 pub mod Transcripts
 pub mod Arriving

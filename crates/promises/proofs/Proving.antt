@@ -69,16 +69,16 @@ module _ (s : Setting) (h : Honest s) (b : Bool) (m : s .method ≡ cond b 2 1) 
   waiting = begunTag b (s .keyid) (engine s h)
 
   pub starts-later : said (startedBy (s .method) (s .keyid) (beginOptions (s .method) (s .options)) (s .features) (s .tagNumber) (engine s h))
-      ≡ doneBy waiting (challengeBits s (s .features))
+      ≡ doneBy waiting (challengeBits s)
   unfolding startedBy layoutOf
   starts-later = rw (not-ta, ia-alone, Bool·not-not b)
 
   abbrev pub proving : ReaderState
   proving = filledReader false (asking s h) (proved s)
 
-  pub answers : (heard : ℕ) → Supporting s heard → (slice : List ℕ) (room : ℕ) → 265 ≤ room → Carries (challengeBits s heard) slice
-      → repliedOf (asking s h) slice (length (challengeBits s heard)) room ≡ doneBy proving (stepOneBits s (firstWord s))
-  answers heard q slice room r c = answers-later s h heard q slice room r not-ta c
+  pub answers : Supporting s (s .features) → (slice : List ℕ) (room : ℕ) → 265 ≤ room → Carries (challengeBits s) slice
+      → repliedOf (asking s h) slice (length (challengeBits s)) room ≡ doneBy proving (stepOneBits s (firstWord s))
+  answers q slice room r c = answers-later s h slice room r q not-ta c
 
   -- ---- step 1 at the tag, with any word for the first
 

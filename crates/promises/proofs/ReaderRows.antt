@@ -5,7 +5,7 @@ use mathlib.Core.List.{List}
 use Prim.Native.Nat.{ℕ}
 use lib.Dec.{eqb, ltb}
 use Rattle.bits.specs.Bytes.{bitsOfBytes}
-use Rattle.payloads.specs.Payloads.{numberLimit, statusIn, zerosOf, supports}
+use Rattle.payloads.specs.Payloads.{numberLimit, statusIn, zerosOf, supports, offers}
 use Rattle.faces.specs.declared.ReaderFace.{ReaderFace}
 use Rattle.faces.specs.declared.Stage.{Stage}
 use Rattle.faces.specs.declared.Stage.the-variants.{Idle, Step0Sent, Step1Sent, Open, Closed}
@@ -50,8 +50,8 @@ reply-row n m c s =
     every (λ n. replyLength (stageRow n) m c s ≡ replyRight n m c s) refl
     (or-false _ ∙ chosen (eqb m 0) (eqb c 120) (eqb c 56) ∙ sent-length (eqb m 0) c) (chosen (eqb m 1) _ _) refl refl n
 
-features-row : (n : Stage) (x o : ℕ) → (stageRow n .asked && not (supports x o)) ≡ not (featuresRight n x o)
-features-row n x o = every (λ n. (stageRow n .asked && not (supports x o)) ≡ not (featuresRight n x o)) refl refl refl refl refl n
+features-row : (n : Stage) (x m o : ℕ) → (stageRow n .asked && not (offers x m && supports x o)) ≡ not (featuresRight n x m o)
+features-row n x m o = every (λ n. (stageRow n .asked && not (offers x m && supports x o)) ≡ not (featuresRight n x m o)) refl refl refl refl refl n
 
 pub status-row : (n : Stage) (s : ℕ) → (stageRow n .proving && eqb s 1) ≡ not (statusRight n s)
 status-row n s = every (λ n. (stageRow n .proving && eqb s 1) ≡ not (statusRight n s)) refl refl (sym (Bool·not-not (eqb s 1))) refl refl n

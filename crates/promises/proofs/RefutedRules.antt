@@ -1,12 +1,13 @@
 -- Demand 1 has force: machines that go by a wrong rule are refuted. Assumes nothing.
 use mathlib.Core.Path.{_≡_, refl, sym, ap, _∙_}
-use mathlib.Core.Bool.{Bool, true, false}
+use mathlib.Core.Bool.{Bool, true, false, true≢false, not, cond, _&&_}
 use mathlib.Core.List.{List, [], _∷_}
-use Prim.Native.Nat.{ℕ, suc}
+use mathlib.Core.Logic.{_⊎_, inl, inr}
+use Prim.Native.Nat.{ℕ, suc, _≤_, _<_}
 use native.Mathlib.Omega.{arith}
 use lib.Dec.{eqb}
 use lib.ListN.{length, replicate, take, getD}
-use borrow.Author.Tests.{eqb-false}
+use borrow.Author.Tests.{eqb-false, lt-ltb, le-ltb, eq-eqb}
 use Rattle.bits.specs.Area.{shown}
 use Rattle.bits.specs.Bits.{bitsOf, numOf, digit}
 use Rattle.bits.specs.Bytes.{bitsOfBytes, bytesOf, padded, fieldOf}
@@ -15,33 +16,40 @@ use Rattle.book.specs.Book as Book
 use Rattle.grain.specs.declared.Engine.{Engine}
 use Rattle.grain.specs.declared.Session.{Session}
 use Rattle.grain.specs.declared.Method.the-variants.{Ta, Ia, Ma}
-use Rattle.payloads.specs.Payloads.{zerosOf, layoutOf}
+use Rattle.payloads.specs.Payloads.{statusIn, offers, supports, zerosOf, layoutOf}
 use Rattle.payloads.proofs.Layouts.{length-challenge}
 use Rattle.faces.specs.declared.Face.{Face}
+use Rattle.faces.specs.declared.ReaderFace.{ReaderFace}
 use Rattle.faces.specs.TagFaces.{nameNumber, errorType}
 use Rattle.faces.specs.ReaderFaces.{readerFits}
 use Rattle.rules.specs.declared.Verdict.the-variants.{Go}
-use Rattle.rules.specs.Answers.{numberOf, verdictOf, closingOf, ifSound}
+use Rattle.rules.specs.declared.Answer.the-variants.{Unsupported}
+use Rattle.rules.specs.Answers.{numberOf, close, verdictOf, closingOf, ifSound}
 use Rattle.rules.specs.Calls.{Command}
-use Rattle.rules.specs.Results.{comparedBy, decided, said}
+use Rattle.rules.specs.Results.{Result, refusedBy, comparedBy, decided, said}
 use Rattle.rules.specs.TagRules.{shownOf, commandWork}
 use Rattle.rules.specs.ReaderRules.{replyWork}
 use Rattle.states.specs.declared.tag.TagState.{TagState}
 use Rattle.states.specs.declared.reader.ReaderState.{ReaderState}
 use Rattle.states.specs.Sessions.{emptySession, emptyRegister, sessionFits}
 use Rattle.states.specs.TagStates.{faceOf, soundOf, resetTag, closedTag, begunTag, openTag, begunFace}
-use Rattle.states.specs.ReaderStates.{readerFaceOf, readerSecretsOf, readerOf, readerSound, begunReader}
+use Rattle.states.specs.ReaderStates.{readerSound, closedReader, begunReader, begunReaderFace}
 use Rattle.states.proofs.TagStates.{face-closed, face-begun, face-open}
+use Rattle.states.proofs.ReaderStates.{face-asked, secrets-asked}
 use Rattle.machines.specs.TagWork.{workedOf, receiveOf, proveOf, provedBy, errorTypeOf, commandOf}
 use Rattle.machines.specs.TagWork as Work
-use Rattle.machines.specs.ReaderWork.{answeredBy, answerOf}
+use Rattle.machines.specs.ReaderWork.{answeredBy}
 use Rattle.machines.proofs.TagSound.{reset-sound, close-sound, begun-sound, open-sound}
-use Rattle.promises.specs.Machines.{TagMachine}
+use Rattle.promises.specs.Machines.{Given, TagMachine}
+use Rattle.promises.specs.Ours.{given}
 use Rattle.promises.specs.Order.{firstOf, Worked, done, failed}
 use Rattle.promises.specs.TagTable.{commandChecks, commandLeads}
 use Rattle.promises.specs.Demand1.{Demand1Tag, Demand1Reader}
 use Rattle.promises.specs.Leaky.{leavesEarlier}
-use Rattle.promises.specs.WrongRules.{argumentFirst, commCloses, zerosUnread, anyKeyId, errorsExchanged, failedStays, featuresUnheld}
+use Rattle.promises.specs.WrongRules.{argumentFirst, commCloses, zerosUnread, anyKeyId, errorsExchanged, failedStays, heldBy, anyFeatures, featuresUnheld, optionsOnly, methodUnheld, iaBitOfTa, taByIaBit, taBitOfMa, maByTaBit}
+use Rattle.promises.specs.Offered.{heardIn, responseBits, Takes}
+use Rattle.promises.proofs.ReaderRows.{reply-row}
+use Rattle.promises.proofs.Offered.{refuses, goes, asked-passes}
 use Rattle.promises.proofs.Comparisons.{order-of}
 use Rattle.promises.proofs.LeakRuns.{buffer, opening, engine, opens}
 use Rattle.promises.proofs.Leaks as Leaks
@@ -180,14 +188,77 @@ leaves-earlier d =
     let h = d .forgets .command resetTag (opening Ia 0) buffer (replicate 265 255) refl .area in
     held-differs (rw (opens Ia 0, length-challenge) at h)
 
--- ---- the reader: features that support nothing, in IA
+-- ---- the reader: features that it hears
 
-abbrev asking : ReaderState
-asking = begunReader 1 0 5 0 emptyRegister
+-- TA, IA or MA has been begun with options 0, and a response says these features
+abbrev asking : ℕ → ReaderState
+asking method = begunReader method 0 5 0 emptyRegister
 
+abbrev saying : ℕ → List ℕ
+saying features = features ∷ replicate 14 0
+
+asking-sound : (method : ℕ) → method < 3 → readerSound (asking method) ≡ true
+unfolding readerSound readerFits sessionFits
+asking-sound method h = rw (face-asked, secrets-asked, lt-ltb method 3 h) refl
+
+-- 0 and 10 are not 4
+not-four : {n : ℕ} {P : Type 0} → (n ≡ 0) ⊎ (P × (n ≡ 10)) → n ≡ 4 → ⊥
+not-four (inl z) h = omega (arith, z, h)
+not-four (inr p) h = omega (arith, p .1, h)
+
+-- one that holds features by `right`, where the words say the contrary
+module _ (right : ReaderFace → ℕ → Bool) (d : Demand1Reader (heldBy right)) (method features count : ℕ) (h : method < 3)
+    (e : count ≡ responseBits method) (w : count ≤ 120) where
+  takes : Takes (heldBy right) (asking method) (saying features) count buffer
+  takes = record { sound = asking-sound method h; stage = rw face-asked refl; within = w; room = omega arith }
+
+  abbrev heard : ℕ
+  heard = heardIn (saying features)
+
+  abbrev work : Result ReaderState
+  work =
+      let l = bitsOfBytes (saying features) in
+      said (answeredBy (replyWork (begunReaderFace method 0 5 0) (statusIn l)) (asking method) l)
+
+  -- it goes on, or answers 4
+  by-right : (x : Bool) → right (begunReaderFace method 0 5 0) heard ≡ x
+      → heldBy right .replied (asking method) (saying features) count buffer ≡ cond x (given work buffer) (given (refusedBy closedReader Unsupported) buffer)
+  unfolding ifSound decided verdictOf closingOf
+  by-right x own = rw (asking-sound method h, face-asked, reply-row, eq-eqb count (responseBits method) e, le-ltb 120 count w, own) (at x)
+    where
+      at : (x : Bool)
+          → given (decided (cond (not x) (close Unsupported) Go) (asking method) closedReader work) buffer
+          ≡ cond x (given work buffer) (given (refusedBy closedReader Unsupported) buffer)
+      at true = refl
+      at false = refl
+
+  -- and the words say the contrary
+  pub apart : (x : Bool) → right (begunReaderFace method 0 5 0) heard ≡ x → (offers heard method && supports heard 0) ≡ not x → ⊥
+  apart true own words =
+      let l = bitsOfBytes (saying features) in
+      let four = refuses (heldBy right) d (asking method) (saying features) count buffer takes (rw face-asked e) (rw face-asked words) .answer in
+      let went = asked-passes (asking method) (begunReaderFace method 0 5 0) (statusIn l) l buffer refl in
+      true≢false (sym went ∙ rw (sym (ap (λ (y : Given ReaderState). y .answer) (by-right true own)) ∙ four) refl)
+  apart false own words =
+      not-four (goes (heldBy right) d (asking method) (saying features) count buffer takes (rw face-asked e) (rw face-asked words))
+      (ap (λ (y : Given ReaderState). y .answer) (by-right false own))
+
+-- IA's bit alone, in IA, which needs MAC32's
 pub features-unheld : Demand1Reader featuresUnheld → ⊥
-unfolding firstOf ifSound decided verdictOf closingOf readerSound readerFits sessionFits readerFaceOf readerSecretsOf readerOf begunReader replyWork answeredBy answerOf
-    bitsOfBytes bitsOf digit numOf padded fieldOf
-features-unheld d =
-    let h = d .answers .replied asking (replicate 7 0) 56 buffer .refused (λ z. omega (arith, z)) .answer in
-    omega (arith, h)
+unfolding bitsOfBytes bitsOf digit numOf padded fieldOf
+features-unheld d = apart anyFeatures d 1 2 56 (omega arith) refl (omega arith) true refl refl
+
+-- the customers' tags: every bit but TA's, in TA
+pub method-unheld : Demand1Reader methodUnheld → ⊥
+unfolding bitsOfBytes bitsOf digit numOf padded fieldOf
+method-unheld d = apart optionsOnly d 0 30 120 (omega arith) refl (omega arith) true refl refl
+
+-- TA's bit and MAC32's, and not IA's, in TA
+pub ta-by-ia-bit : Demand1Reader taByIaBit → ⊥
+unfolding bitsOfBytes bitsOf digit numOf padded fieldOf
+ta-by-ia-bit d = apart iaBitOfTa d 0 5 120 (omega arith) refl (omega arith) false refl refl
+
+-- IA's bit and MAC32's, and not TA's, in MA, which needs none
+pub ma-by-ta-bit : Demand1Reader maByTaBit → ⊥
+unfolding bitsOfBytes bitsOf digit numOf padded fieldOf
+ma-by-ta-bit d = apart taBitOfMa d 2 6 56 (omega arith) refl (omega arith) false refl refl

@@ -29,7 +29,7 @@ use Rattle.promises.specs.Wrong.{zeroTag}
 use Rattle.promises.specs.WrongReaders.{zeroReader}
 use Rattle.promises.proofs.Transcripts.{first-is, first-small}
 use Rattle.promises.proofs.Opening.{asking, compares}
-use Rattle.promises.proofs.Refuted.{book, setting, one-for, honest, buffer, payload, sliceOf, carried, ours, tag-says}
+use Rattle.promises.proofs.Refuted.{book, setting, honest, buffer, payload, sliceOf, carried, ours, tag-says}
 use Rattle.promises.proofs.Computed.{key-first}
 
 -- the first word begins with a 1
@@ -52,15 +52,15 @@ parts : (k : ℕ) → tagProof 31 0 k ≡ tagChallenge 31 0 ++ bitsOf 64 k
 unfolding tagProof tagChallenge
 parts k = sym (append-assoc (bitsOf 8 31) (bitsOf 48 0) (bitsOf 64 k))
 
-proof-carried : (k : ℕ) → take 120 (bitsOfBytes (sliceOf (tagProofBits setting 31 k))) ≡ tagProofBits setting 31 k
-proof-carried k = rw length-proof at (carried (tagProofBits setting 31 k) (rw length-proof (omega arith)) .same)
+proof-carried : (k : ℕ) → take 120 (bitsOfBytes (sliceOf (tagProofBits setting k))) ≡ tagProofBits setting k
+proof-carried k = rw length-proof at (carried (tagProofBits setting k) (rw length-proof (omega arith)) .same)
 
-front : (k : ℕ) → take 56 (bitsOfBytes (sliceOf (tagProofBits setting 31 k))) ≡ tagChallenge 31 0
+front : (k : ℕ) → take 56 (bitsOfBytes (sliceOf (tagProofBits setting k))) ≡ tagChallenge 31 0
 front k =
-    sym (take-take 56 120 (bitsOfBytes (sliceOf (tagProofBits setting 31 k))) (omega arith)) ∙ ap (take 56) (proof-carried k ∙ parts k)
+    sym (take-take 56 120 (bitsOfBytes (sliceOf (tagProofBits setting k))) (omega arith)) ∙ ap (take 56) (proof-carried k ∙ parts k)
     ∙ take-at (tagChallenge 31 0) (bitsOf 64 k) 56 (length-challenge 31 0)
 
-zeros-said : said .buffer ≡ sliceOf (tagProofBits setting 31 0)
+zeros-said : said .buffer ≡ sliceOf (tagProofBits setting 0)
 zeros-said = rw (ours, length-zero, length-proof, front (firstWord setting), ← parts 0) refl
 
 pub says-zeros : (R : ReaderMachine) → Demand2 R zeroTag → ⊥
@@ -79,8 +79,8 @@ zero-pair = says-zeros zeroReader
 pub zeros-talk : zeroReader .replied (asking setting honest) (said .buffer) 120 buffer .answer ≡ 0
 unfolding matched comparedBy layoutOf
 zeros-talk =
-    let l = tagProofBits setting 31 0 in
+    let l = tagProofBits setting 0 in
     let c = carried l (rw length-proof (omega arith)) in
-    let ten = rw length-proof at (compares setting honest 31 (one-for 0) (sliceOf l) 265 (omega arith) refl 0 (omega arith) c) in
+    let ten = rw length-proof at (compares setting honest (sliceOf l) 265 (omega arith) refl 0 (omega arith) c) in
     let word = field-of 56 64 120 (bitsOfBytes (sliceOf l)) _ (proof-carried 0) (omega arith) ∙ proof-keystream 31 0 0 (omega arith) in
     rw (zeros-said, ten, ne-eqb (firstWord setting) 0 (λ e. word-not-zero (sym e)), word) refl

@@ -28,15 +28,15 @@ use Rattle.promises.specs.Wrong.{movedTo, passes, anyWord}
 use Rattle.promises.specs.WrongReaders.{withReplied, taWith, withTaken}
 use Rattle.promises.specs.Audited.{saidTurned, readTurned}
 
--- ---- features: "Received features must support the chosen options", and the method's own bit is the tag's to hold
+-- ---- features: the reader holds them against the options and its method, and against nothing else
 
--- takes every TA response whose features lack TA's own bit
-abbrev pub blindWithoutBit : ReaderMachine
-blindWithoutBit =
+-- takes any word in a TA response whose features lack IA's bit
+abbrev pub blindWithoutIa : ReaderMachine
+blindWithoutIa =
     withReplied (λ r payload count buffer.
     let g = ourReader .replied r payload count buffer in
     let l = bitsOfBytes payload in
-    cond (not (hasBit 0 (featuresIn l)) && (eqb count 120 && passes g)) (given (taWith anyWord r l) buffer) g)
+    cond (not (hasBit 1 (featuresIn l)) && (eqb count 120 && passes g)) (given (taWith anyWord r l) buffer) g)
 
 -- a step 1 command whose last 64 bits are this word
 abbrev pub worded : ℕ → Given ReaderState → List ℕ → Given ReaderState
@@ -47,12 +47,12 @@ worded word g buffer = record {
   buffer = shown (take (g .bits - 64) (bitsOfBytes (g .buffer)) ++ bitsOf 64 word) buffer;
 }
 
--- says 64 bits of the key for IA's "first 64 keystream bits", where the features that it hears lack IA's own bit
+-- says 64 bits of the key for IA's "first 64 keystream bits", where the features that it hears lack TA's bit
 abbrev pub keySpills : ReaderMachine
 keySpills =
     withReplied (λ r payload count buffer.
     let g = ourReader .replied r payload count buffer in
-    cond (eqb (readerFaceOf r .method) 1 && (eqb (g .bits) 80 && not (hasBit 1 (featuresIn (bitsOfBytes payload)))))
+    cond (eqb (readerFaceOf r .method) 1 && (eqb (g .bits) 80 && not (hasBit 0 (featuresIn (bitsOfBytes payload)))))
     (worded (readerSecretsOf r .engine .b .first) g buffer) g)
 
 -- ---- refusals

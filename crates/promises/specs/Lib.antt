@@ -15,5 +15,6 @@ pub mod Leaky
 pub mod Wrong
 pub mod WrongReaders
 pub mod WrongRules
+pub mod Offered
 pub mod Audited
 pub mod AuditedReaders

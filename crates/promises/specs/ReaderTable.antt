@@ -1,6 +1,6 @@
--- Document 01, "Reader machine", line by line: for each call of the reader which check refuses, and where a call leads. It is said of
--- what the reader shows, and apart from the tables of `faces` and `rules` that the code is proved by; the payload rules and the book
--- are shared. Assumes nothing.
+-- Document 01, "Reader machine", line by line, with what document 02's requests amend: for each call of the reader which check refuses,
+-- and where a call leads. It is said of what the reader shows, and apart from the tables of `faces` and `rules` that the code is proved
+-- by; the payload rules and the book are shared. Assumes nothing.
 use mathlib.Core.Bool.{Bool, true, false, not, cond, _&&_, _||_}
 use mathlib.Core.List.{List, [], _++_}
 use Prim.Native.Nat.{ℕ, _*_, _^_}
@@ -13,7 +13,7 @@ use Rattle.grain.specs.declared.Session.{Session}
 use Rattle.faces.specs.declared.ReaderFace.{ReaderFace}
 use Rattle.faces.specs.declared.Stage.{Stage}
 use Rattle.faces.specs.declared.Stage.the-variants.{Idle, Step0Sent, Step1Sent, Open, Closed}
-use Rattle.payloads.specs.Payloads.{stepZero, featuresIn, statusIn, macBits, securing, supports}
+use Rattle.payloads.specs.Payloads.{stepZero, featuresIn, statusIn, macBits, securing, supports, offers}
 use Rattle.rules.specs.Calls.{Message, Begin}
 use Rattle.promises.specs.Order.{Checks, Leads, messageRight, sendArgument}
 
@@ -127,13 +127,13 @@ replyRight Step1Sent method count status = cond (eqb method 1) (eqb count 1) ((e
 replyRight Open method count status = false
 replyRight Closed method count status = false
 
--- "Received features must support the chosen options, else 4"
-abbrev pub featuresRight : Stage → ℕ → ℕ → Bool
-featuresRight Idle features options = true
-featuresRight Step0Sent features options = supports features options
-featuresRight Step1Sent features options = true
-featuresRight Open features options = true
-featuresRight Closed features options = true
+-- "Received features must support the chosen options, else 4"; Req 01: "The reader is to hold them against the method too"
+abbrev pub featuresRight : Stage → ℕ → ℕ → ℕ → Bool
+featuresRight Idle features method options = true
+featuresRight Step0Sent features method options = offers features method && supports features options
+featuresRight Step1Sent features method options = true
+featuresRight Open features method options = true
+featuresRight Closed features method options = true
 
 -- "Status 1 or unequal bits are 10"
 abbrev pub statusRight : Stage → ℕ → Bool
@@ -158,7 +158,7 @@ replyChecks sound f payload count room =
       length = not (replyRight (f .stage) (f .method) count (statusIn l));
       step = false;
       key = false;
-      support = not (featuresRight (f .stage) (featuresIn l) (f .options));
+      support = not (featuresRight (f .stage) (featuresIn l) (f .method) (f .options));
       status = not (statusRight (f .stage) (statusIn l));
     }
 

@@ -35,8 +35,8 @@ pub record Honest (s : Setting) : Type 0 where
   pub oneKey : Book.keyOf (s .keyid) (s .readerBook) ≡ Book.keyOf (s .keyid) (s .tagBook)
   pub offered : supportsStart (s .features) (s .method) (cond (eqb (s .method) 0) (s .options) 0) ≡ true
 
--- a features byte that supports the options: the reader may hear any, and the tag may have any at step 1, where they are held.
--- Document 01's "one features byte" is a case of this
+-- a features byte that supports the options: in IA and MA the reader holds the tag's of step 0, and the tag any that it has at step 1.
+-- Document 01's "one features byte" is the case where step 1's is step 0's
 pub record Supporting (s : Setting) (features : ℕ) : Type 0 where
   pub byte : features < 256
   pub options : supports features (s .options) ≡ true

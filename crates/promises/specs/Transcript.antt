@@ -65,12 +65,12 @@ module _ (s : Setting) where
   stepZeroBits = stepZero (s .method) (cond (eqb (s .method) 0) (s .options) 0) (s .keyid) (s .readerNumber)
 
   -- "TA 120 bits (features 8, tag's number 48, 64 keystream bits)"
-  abbrev pub tagProofBits : ℕ → ℕ → List Bool
-  tagProofBits features word = tagProof features (s .tagNumber) word
+  abbrev pub tagProofBits : ℕ → List Bool
+  tagProofBits word = tagProof (s .features) (s .tagNumber) word
 
   -- "IA and MA step 0, 56 bits"
-  abbrev pub challengeBits : ℕ → List Bool
-  challengeBits features = tagChallenge features (s .tagNumber)
+  abbrev pub challengeBits : List Bool
+  challengeBits = tagChallenge (s .features) (s .tagNumber)
 
   -- "method, step 01, options, KeyID, IKeystream 64"
   abbrev pub stepOneBits : ℕ → List Bool

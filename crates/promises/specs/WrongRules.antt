@@ -1,11 +1,11 @@
 -- Machines that go by a wrong rule, each made from ours by changing one: `proofs/RefutedRules` shows that demand 1 fails of each.
 -- Assumes nothing.
-use mathlib.Core.Bool.{Bool, false, not, cond, _&&_, _||_}
+use mathlib.Core.Bool.{Bool, true, false, not, cond, _&&_, _||_}
 use Prim.Native.Nat.{ℕ}
 use lib.Dec.{eqb}
 use lib.ListN.{length}
 use Rattle.bits.specs.Bytes.{bitsOfBytes}
-use Rattle.payloads.specs.Payloads.{keyIdIn, lengthFits, statusIn}
+use Rattle.payloads.specs.Payloads.{keyIdIn, lengthFits, statusIn, hasBit, supports, offers}
 use Rattle.faces.specs.declared.Face.{Face}
 use Rattle.faces.specs.declared.ReaderFace.{ReaderFace}
 use Rattle.faces.specs.declared.Row.{Row}
@@ -106,7 +106,42 @@ repliesJudgedBy closing = withReplied (λ r payload count buffer.
     given (decided (ifSound (readerSound r) (verdictOf (replyKeeping (stageRow (f .stage)) p) (closing (stageRow (f .stage)) f p))) r closedReader
     (said (answeredBy (replyWork f (statusIn l)) r l))) buffer)
 
--- the features that it receives are not held against the options
+-- closing checks with another check of the features
+abbrev pub withSupport : Bool → Closing → Closing
+withSupport wrong c = record { kind = c .kind; length = c .length; step = c .step; key = c .key; support = wrong }
+
+-- ours, but that the features of step 0's response are held by another rule
+abbrev pub heldBy : (ReaderFace → ℕ → Bool) → ReaderMachine
+heldBy right = repliesJudgedBy (λ row f p. withSupport (row .asked && not (right f (p .features))) (replyClosing row f p))
+
+-- not at all
+abbrev pub anyFeatures : ReaderFace → ℕ → Bool
+anyFeatures f features = true
+
+-- the features that it receives are not held
 abbrev pub featuresUnheld : ReaderMachine
-featuresUnheld = repliesJudgedBy (λ row f p. let c = replyClosing row f p in
-    record { kind = c .kind; length = c .length; step = c .step; key = c .key; support = false })
+featuresUnheld = heldBy anyFeatures
+
+-- Req 01: "Document 01 holds received features against the options only"
+abbrev pub optionsOnly : ReaderFace → ℕ → Bool
+optionsOnly f features = supports features (f .options)
+
+-- ours without Req 01: the method is not held
+abbrev pub methodUnheld : ReaderMachine
+methodUnheld = heldBy optionsOnly
+
+-- IA's bit is asked of TA
+abbrev pub iaBitOfTa : ReaderFace → ℕ → Bool
+iaBitOfTa f features = (hasBit 1 features || eqb (f .method) 2) && supports features (f .options)
+
+-- the reader that does
+abbrev pub taByIaBit : ReaderMachine
+taByIaBit = heldBy iaBitOfTa
+
+-- TA's bit is asked of MA
+abbrev pub taBitOfMa : ReaderFace → ℕ → Bool
+taBitOfMa f features = offers features (f .method) && (hasBit 0 features || not (eqb (f .method) 2)) && supports features (f .options)
+
+-- the reader that does
+abbrev pub maByTaBit : ReaderMachine
+maByTaBit = heldBy taBitOfMa

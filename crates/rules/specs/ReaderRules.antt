@@ -5,7 +5,7 @@ use Prim.Native.Nat.{ℕ}
 use lib.Dec.{ltb, leb, eqb}
 use Rattle.bits.specs.Bytes.{bitsOfBytes}
 use Rattle.book.specs.Book as Book
-use Rattle.payloads.specs.Payloads.{dataLimit, securing, supports, featuresIn, statusIn, lengthFits, beyondOf}
+use Rattle.payloads.specs.Payloads.{dataLimit, securing, supports, offers, featuresIn, statusIn, lengthFits, beyondOf}
 use Rattle.faces.specs.declared.StageRow.{StageRow}
 use Rattle.faces.specs.declared.ReaderFace.{ReaderFace}
 use Rattle.rules.specs.declared.ShownBegin.{ShownBegin}
@@ -87,14 +87,14 @@ replyKeeping row p = record {
   work = not (row .asked || row .proving);
 }
 
--- "Received features must support the chosen options, else 4"
+-- "Received features must support the chosen options, else 4"; Req 01: "The reader is to hold them against the method too"
 abbrev pub replyClosing : StageRow → ReaderFace → ShownReply → Closing
 replyClosing row f p = record {
   kind = false;
   length = not (replyLength row (f .method) (p .count) (p .status));
   step = false;
   key = false;
-  support = row .asked && not (supports (p .features) (f .options));
+  support = row .asked && not (offers (p .features) (f .method) && supports (p .features) (f .options));
 }
 
 -- of the response only its features and its status: no secret chooses the verdict

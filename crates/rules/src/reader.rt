@@ -76,13 +76,14 @@ fn reply_closing(row: StageRow, f: ReaderFace, p: ShownReply) -> Closing
     ensures { λ r. ⌜ r ≡ replyClosing row f p ⌝ }
 {
     let length = reply_length(row, f.method, p.count, p.status);
-    let support = payloads::supported(p.features, f.options);
+    let own = payloads::offered(p.features, f.method);
+    let chosen = payloads::supported(p.features, f.options);
     Closing {
         kind: false,
         length: !length,
         step: false,
         key: false,
-        support: row.asked & !support,
+        support: row.asked & !(own & chosen),
     }
 }
 
