@@ -95,6 +95,7 @@ impl<'a> Session<'a> {
         let step_0 = self.reader_turn(begin, &[])?;
         let command = self.command(AUTH, step_0);
         let first = self.tag_turn(command, &STEP_0)?;
+        self.hear_features(&first)?;
         if self.method == TA {
             self.reader_turn(ReaderCall::Replied { payload: first }, &TA_RESPONSE)?;
             return Ok(());
@@ -108,6 +109,26 @@ impl<'a> Session<'a> {
             MA_RESPONSE
         };
         self.reader_turn(ReaderCall::Replied { payload }, &fields)?;
+        Ok(())
+    }
+
+    /// Step 0's response with every choice of Table 5's bits: the method's own and those of the
+    /// options there or missing, now and then with other bits behind them or with another count.
+    fn hear_features(&mut self, first: &Bits) -> Checked<()> {
+        for table_5 in 0..32 {
+            let random = &mut self.comparison.random;
+            let mut payload = first.clone();
+            payload.bytes[0] = random.byte() & 0xE0 | table_5;
+            if random.one_in(4) {
+                inputs::damage(random, &mut payload, &(8..first.count));
+            }
+            if random.one_in(8) {
+                inputs::recount(random, &mut payload);
+            }
+            let block = self.blocks[Machine::Reader as usize].clone();
+            let replied = What::Reader(ReaderCall::Replied { payload });
+            self.aside(Machine::Reader, replied, block)?;
+        }
         Ok(())
     }
 

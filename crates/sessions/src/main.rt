@@ -1,6 +1,6 @@
-// `sessions` runs a reader and a tag against each other, from reset: a whole session of each method at each of its options, and
-// one whose message is damaged on the way. It prints a heading for each session and a line for each call (document 01, "Tag
-// machine" and "Reader machine").
+// `sessions` runs a reader and a tag against each other, from reset: a whole session of each method at each of its options, one
+// whose message is damaged on the way, and one of each method with a tag that says that it has neither TA nor IA. It prints a
+// heading for each session and a line for each call (document 01, "Tag machine" and "Reader machine"; document 02, Req 01).
 use rules::Answer;
 use suite::Reader;
 use suite::ReaderStep;
@@ -50,6 +50,11 @@ const FEATURES: u8 = 0x1F;
 // The bit that is damaged: the last of the data, so that the zero bits stay zeros and only the MAC can tell.
 const DAMAGED_BIT: usize = 39;
 
+// Where the features of a response have TA's bit and IA's: bits 0 and 1 of Table 5, which counts them from the lowest.
+const TA_FEATURE: usize = 7;
+
+const IA_FEATURE: usize = 6;
+
 // The longest line: 14 of a machine and its call, an answer of 2, a bit count of 4, a reply in hex, and what stands between and
 // behind them.
 const LINE_BYTES: usize = 24 + 2 * Tag::REPLY_BYTES;
@@ -72,6 +77,9 @@ fn main() {
     session(b"MA MAC32 secure", MA, 2);
     session(b"MA MAC64 secure", MA, 3);
     damaged_session(b"MA MAC32 secure damaged");
+    bought_session(b"TA MAC32 bought tag", TA);
+    bought_session(b"IA MAC32 bought tag", IA);
+    bought_session(b"MA MAC32 bought tag", MA);
 }
 
 fn session(heading: &[u8], method: u8, options: u8) {
@@ -98,6 +106,37 @@ fn damaged_session(heading: &[u8]) {
 fn damage(message: &mut [u8]) {
     let bit = bits::bit_at(message, DAMAGED_BIT);
     bits::set_bit(message, DAMAGED_BIT, !bit);
+}
+
+// The bought tag answers as ours does, and says that it can't. The reader turns it away in TA and IA and is closed then, and the
+// same response again finds no work; MA needs no bit and goes on.
+fn bought_session(heading: &[u8], method: u8) {
+    print_heading(heading);
+    let mut message = [0u8; Tag::REPLY_BYTES];
+    let mut reply = [0u8; Tag::REPLY_BYTES];
+    let run = begin(fresh(), method, 0, &mut message);
+    let run = command(run, AUTH, &message, &mut reply);
+    let bits = run.bits;
+    disclaim(&mut reply);
+    print_call(b"bought tag ", Answer::Done, bits, &reply);
+    let run = replied(run, &reply, &mut message);
+    if method == MA {
+        prove(run, &mut message);
+        return;
+    }
+    replied(given(run, bits), &reply, &mut message);
+}
+
+// The same machines, and so many bits for the next of them.
+fn given(run: Run, bits: usize) -> Run {
+    let reader = run.reader;
+    let tag = run.tag;
+    Run { reader, tag, bits }
+}
+
+fn disclaim(response: &mut [u8]) {
+    bits::set_bit(response, TA_FEATURE, false);
+    bits::set_bit(response, IA_FEATURE, false);
 }
 
 // The authentication: TA has one command and its response, the others two.
