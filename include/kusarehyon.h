@@ -10,7 +10,8 @@
  *    1  the book is not whole records of 17 bytes, has over 16, or its KeyIDs do not rise
  *    2  the reply buffer is shorter than 265 bytes
  *    3  kind, method or step not for this state
- *    4  method unsupported, or options not as the payload rules ask
+ *    4  method unsupported, or options not as the payload rules ask; at the reader also where the features that a tag says lack
+ *       the bit of the method that was begun, or one that the options need
  *    5  KeyID not in the book, or not that of step 0
  *    6  length wrong, or the eight bits not zero
  *    7  the tag has an error; only a reset opens it
@@ -104,7 +105,8 @@ uint8_t kusarehyon_reader_begin(uint8_t *state, size_t state_len, uint8_t method
                                 size_t *bits);
 
 /* The tag's authentication response, the first count bits of payload. The reply is the step 1 command, or nothing where the
- * session is open. */
+ * session is open. Step 0's response begins with the tag's features, bit 0 TA, 1 IA, 2 MAC32, 3 MAC64, 4 secure messages: TA needs
+ * bit 0, IA bit 1, MA none, and the options theirs, else the answer is 4 and the reader is closed. */
 uint8_t kusarehyon_reader_replied(uint8_t *state, size_t state_len, const uint8_t *payload, size_t payload_len, size_t count,
                                   uint8_t *reply, size_t reply_len, size_t *bits);
 

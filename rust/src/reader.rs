@@ -31,6 +31,10 @@ pub fn begin(state: &mut [u8], begin: &Begin, reply: &mut [u8]) -> Reply {
 
 /// The tag's authentication response, the first `count` bits of the payload. The reply is the
 /// step 1 command, or nothing where the session is open.
+///
+/// Step 0's response begins with the tag's features, bit 0 TA, 1 IA, 2 MAC32, 3 MAC64, 4 secure
+/// messages: TA needs bit 0, IA bit 1, MA none, and the options theirs, else the answer is 4 and
+/// the reader is closed.
 pub fn replied(state: &mut [u8], payload: &[u8], count: usize, reply: &mut [u8]) -> Reply {
     let mut bits = UNWRITTEN;
     // SAFETY: every pointer and length is a borrow's own.
