@@ -164,6 +164,7 @@ static void refusing_session(uint8_t method, uint8_t options)
     refuse(s.reader, request(READER_REPLIED, 0, with_count(response, response.count - 1)), 6);
     response.bytes[0] = 0;
     refuse(s.reader, request(READER_REPLIED, 0, response), 4);
+    /* TA's own feature is bit 0 and IA's bit 1, as their numbers; MA has none. */
     response.bytes[0] = FEATURES ^ 1 << method;
     if (method != MA)
         refuse(s.reader, request(READER_REPLIED, 0, response), 4);

@@ -1,10 +1,9 @@
 -- Demands 1 and 2 have force: readers that go wrong where features lack a bit, on a refusal or at reset are refuted. Assumes nothing.
 use mathlib.Core.Path.{_≡_, refl, sym, ap, _∙_}
-use mathlib.Core.Bool.{Bool, true, false, cond, true≢false}
+use mathlib.Core.Bool.{Bool, false, true≢false}
 use mathlib.Core.List.{List, [], _∷_, _++_}
 use Prim.Native.Nat.{ℕ, _^_, _<_}
 use native.Mathlib.Omega.{arith}
-use lib.Dec.{eqb}
 use lib.ListN.{length, take, getD, length-append}
 use Rattle.bits.specs.Bits.{bitsOf, digit, numOf}
 use Rattle.bits.specs.Bytes.{bitsOfBytes, padded, fieldOf}
@@ -16,7 +15,7 @@ use Rattle.book.specs.Book as Book
 use Rattle.grain.specs.Mac.{keystream}
 use Rattle.grain.proofs.Back.{word-back}
 use Rattle.grain.proofs.Runs.{length-keystream}
-use Rattle.payloads.specs.Payloads.{featuresIn, supportsStart}
+use Rattle.payloads.specs.Payloads.{featuresIn}
 use Rattle.payloads.proofs.Layouts.{length-proof, length-challenge, length-one}
 use Rattle.payloads.proofs.Reading.{proof-features, challenge-features, one-fields}
 use Rattle.faces.specs.declared.ReaderFace.{ReaderFace}
@@ -46,46 +45,17 @@ use Rattle.promises.proofs.Transcripts.{first-is, first-small, key}
 use Rattle.promises.proofs.Opening.{begins}
 use Rattle.promises.proofs.Proving.{answers}
 use Rattle.promises.proofs.ComputedIa.{ia-first}
-use Rattle.promises.proofs.Refuted.{setting, honest, later, later-honest, buffer, sliceOf, carried, another, differs, asked, answered, step}
+use Rattle.promises.proofs.Sessions.{settingUnder, met-under}
+use Rattle.promises.proofs.Refuted.{book, book-sound, book-knows, later, buffer, sliceOf, carried, another, differs, asked, answered, step}
 use Rattle.promises.proofs.Comparing.{taken, matched-done}
-
--- ---- features that offer the method, and not all else
-
-abbrev under : ℕ → Setting → Setting
-under features s = record {
-  method = s .method;
-  options = s .options;
-  keyid = s .keyid;
-  features = features;
-  readerNumber = s .readerNumber;
-  tagNumber = s .tagNumber;
-  readerBook = s .readerBook;
-  tagBook = s .tagBook;
-}
-
-under-honest : (x : ℕ) (s : Setting) → Honest s → x < 256 → supportsStart x (s .method) (cond (eqb (s .method) 0) (s .options) 0) ≡ true → Honest (under x s)
-under-honest x s h small offered = record {
-  method = h .method;
-  options = h .options;
-  keyid = h .keyid;
-  features = small;
-  readerNumber = h .readerNumber;
-  tagNumber = h .tagNumber;
-  readerSound = h .readerSound;
-  tagSound = h .tagSound;
-  readerKnows = h .readerKnows;
-  tagKnows = h .tagKnows;
-  oneKey = h .oneKey;
-  offered = offered;
-}
 
 -- ---- TA's response with another word, its features without IA's bit
 
 abbrev ta : Setting
-ta = under 13 setting
+ta = settingUnder 13 0 0 0 0 book
 
 ta-honest : Honest ta
-ta-honest = under-honest 13 setting honest (omega arith) refl
+ta-honest = met-under 13 0 0 0 0 book book-sound book-knows (omega arith) (omega arith) (omega arith) (omega arith) (omega arith) refl
 
 pub blind-without-ia : (T : TagMachine) → Demand2 blindWithoutIa T → ⊥
 blind-without-ia T d =
@@ -103,10 +73,10 @@ blind-without-ia T d =
 -- ---- IA's step 1 command, its features without TA's bit: "first 64 keystream bits" is not the key, whose bits are zeros
 
 abbrev ia : Setting
-ia = under 30 (later false)
+ia = settingUnder 30 1 0 0 0 book
 
 ia-honest : Honest ia
-ia-honest = under-honest 30 (later false) (later-honest false) (omega arith) refl
+ia-honest = met-under 30 1 0 0 0 book book-sound book-knows (omega arith) (omega arith) (omega arith) (omega arith) (omega arith) refl
 
 supporting : Supporting ia 30
 supporting = record { byte = omega arith; options = refl }

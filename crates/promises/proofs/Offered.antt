@@ -2,7 +2,7 @@
 use mathlib.Core.Path.{_≡_, refl, sym, _∙_}
 use mathlib.Core.Bool.{Bool, true, false, not, cond, _&&_, true≢false, and-false}
 use mathlib.Core.List.{List}
-use mathlib.Core.Logic.{_⊎_, inl, inr}
+use mathlib.Core.Logic.{inl, inr}
 use Prim.Native.Nat.{ℕ}
 use native.Mathlib.Omega.{arith}
 use lib.Dec.{eqb}
@@ -36,7 +36,7 @@ use Rattle.promises.specs.ReaderTable.{begunFace, beginLeads, replyCheck
 use Rattle.promises.specs.Demand1.{Demand1Reader}
 use Rattle.promises.specs.Wrong.{passes}
 use Rattle.promises.specs.WrongRules.{withSupport, methodUnheld}
-use Rattle.promises.specs.Offered.{heardIn, responseBits, Takes, TurnsAway, Hears, HoldsMethod, lacks, Moved}
+use Rattle.promises.specs.Offered.{heardIn, responseBits, Takes, TurnsAway, GoesOn, Hears, HoldsMethod, lacks, Moved}
 use Rattle.promises.proofs.Answering.{demand1-reader}
 use Rattle.promises.proofs.Follows.{by-answer}
 
@@ -79,12 +79,11 @@ module _ (R : ReaderMachine) (d : Demand1Reader R) where
         at false e = e
 
     passed : {reply : List Bool} → Worked (R .face) (R .sound) (replyLeads (R .face r .stage) (R .face r)) (R .replied r slice count b) reply
-        → (R .replied r slice count b .answer ≡ 0) ⊎ ((R .face r .method ≡ 0) × (R .replied r slice count b .answer ≡ 10))
+        → GoesOn R r slice count b
     passed (done k) = inl (k .answer)
     passed (failed k) = inr (compares-ta (k .compared), k .answer)
 
-    pub goes : count ≡ responseBits (R .face r .method) → right ≡ true
-        → (R .replied r slice count b .answer ≡ 0) ⊎ ((R .face r .method ≡ 0) × (R .replied r slice count b .answer ≡ 10))
+    pub goes : count ≡ responseBits (R .face r .method) → right ≡ true → GoesOn R r slice count b
     goes e f = passed (d .answers .replied r slice count b .worked (first-is true true (eq-eqb _ _ e) f))
 
     hears : Hears R r slice count b

@@ -233,7 +233,7 @@ module _ (right : ReaderFace → ℕ → Bool) (d : Demand1Reader (heldBy right)
       at false = refl
 
   -- and the words say the contrary
-  pub apart : (x : Bool) → right (begunReaderFace method 0 5 0) heard ≡ x → (offers heard method && supports heard 0) ≡ not x → ⊥
+  apart : (x : Bool) → right (begunReaderFace method 0 5 0) heard ≡ x → (offers heard method && supports heard 0) ≡ not x → ⊥
   apart true own words =
       let l = bitsOfBytes (saying features) in
       let four = refuses (heldBy right) d (asking method) (saying features) count buffer takes (rw face-asked e) (rw face-asked words) .answer in

@@ -50,15 +50,18 @@ module _ (R : ReaderMachine) where
 
   -- what the reader makes of the features that it hears
   module _ (r : R .State) (slice : List ℕ) (count : ℕ) (b : List ℕ) where
+    -- it goes on: to step 1 in IA and MA, to the comparison in TA, which may fail
+    abbrev pub GoesOn : Type 0
+    GoesOn = (R .replied r slice count b .answer ≡ 0) ⊎ ((R .face r .method ≡ 0) × (R .replied r slice count b .answer ≡ 10))
+
     pub record Hears : Type 0 where
       -- without its method's bit, whatever its options, key and number
       pub lacking : count ≡ responseBits (R .face r .method) → offers (heardIn slice) (R .face r .method) ≡ false → TurnsAway b (R .replied r slice count b)
       -- the options' own check, as before: "Received features must support the chosen options, else 4"
       pub unsupported : count ≡ responseBits (R .face r .method) → supports (heardIn slice) (R .face r .options) ≡ false → TurnsAway b (R .replied r slice count b)
-      -- where they do both, the reader goes on: in TA to its comparison, in IA and MA to step 1
+      -- where they do both
       pub supported : count ≡ responseBits (R .face r .method) → offers (heardIn slice) (R .face r .method) ≡ true
-          → supports (heardIn slice) (R .face r .options) ≡ true
-          → (R .replied r slice count b .answer ≡ 0) ⊎ ((R .face r .method ≡ 0) × (R .replied r slice count b .answer ≡ 10))
+          → supports (heardIn slice) (R .face r .options) ≡ true → GoesOn
       -- "in its old place": 6 stands before it, whatever the features
       pub wrongLength : (count ≡ responseBits (R .face r .method) → ⊥) → R .replied r slice count b .answer ≡ 6
 
