@@ -6,14 +6,14 @@ use grain::{Engine, Method, Register, Session, Width};
 const LINE_BYTES: usize = 102;
 
 // A line's text, and the place behind what is written of it.
-#[derive(Drop)]
+#[derive(Clone, Copy)]
 struct Line {
     bytes: [u8; LINE_BYTES],
     at: usize,
 }
 
 // Keystream bits and MAC bits, and the generator after their pairs.
-#[derive(Drop)]
+#[derive(Clone, Copy)]
 struct Streams {
     key: u64,
     mac: u64,

@@ -9,7 +9,7 @@ use rules::Answer;
 use states::{ReaderState, TagState};
 
 // What a step gives at the tag, its reply not yet written.
-#[derive(Drop)]
+#[derive(Clone, Copy)]
 pub struct TagOutcome {
     pub next: TagState,
     pub answer: Answer,
@@ -17,7 +17,7 @@ pub struct TagOutcome {
 }
 
 // The same at the reader.
-#[derive(Drop)]
+#[derive(Clone, Copy)]
 pub struct ReaderOutcome {
     pub next: ReaderState,
     pub answer: Answer,

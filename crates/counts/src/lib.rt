@@ -13,7 +13,7 @@ const GROUP: usize = 128;
 
 // Why a frame, or anything else that has counts, is not read or not written: one list for every format. A count and its
 // payload are refused by the first three alone.
-#[derive(Drop)]
+#[derive(Clone, Copy)]
 pub enum Refusal {
     // The slice ends too soon; at a write, the payload is shorter than its count.
     Short,
@@ -28,7 +28,7 @@ pub enum Refusal {
 }
 
 // What reading a count finds.
-#[derive(Drop)]
+#[derive(Clone, Copy)]
 pub enum Counted {
     Refused(Refusal),
     // The count, and the place behind it.
@@ -36,7 +36,7 @@ pub enum Counted {
 }
 
 // What the rules on a count and its payload find.
-#[derive(Drop)]
+#[derive(Clone, Copy)]
 pub enum Checked {
     Refused(Refusal),
     Fine,

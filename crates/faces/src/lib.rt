@@ -10,7 +10,7 @@ ghost use Rattle.faces.specs.ReaderFaces.{stage_number};
 // ---- the tag
 
 // Its states.
-#[derive(Drop)]
+#[derive(Clone, Copy)]
 pub enum Name {
     CsReset,
     Ta1,
@@ -21,7 +21,7 @@ pub enum Name {
 }
 
 // The public parts of its stored state: all that a verdict may look at.
-#[derive(Drop)]
+#[derive(Clone, Copy)]
 pub struct Face {
     pub name: Name,
     pub init: bool,
@@ -34,7 +34,7 @@ pub struct Face {
 }
 
 // A row of document 01's table of states; `specs/TagFaces.antt` says what each column is.
-#[derive(Drop)]
+#[derive(Clone, Copy)]
 pub struct Row {
     pub init: bool,
     pub ta: bool,
@@ -53,7 +53,7 @@ pub struct Row {
 // ---- the reader
 
 // Its states.
-#[derive(Drop)]
+#[derive(Clone, Copy)]
 pub enum Stage {
     Idle,
     Step0Sent,
@@ -63,7 +63,7 @@ pub enum Stage {
 }
 
 // The public parts of its stored state: all that a verdict may look at.
-#[derive(Drop)]
+#[derive(Clone, Copy)]
 pub struct ReaderFace {
     pub stage: Stage,
     pub method: u8,
@@ -74,7 +74,7 @@ pub struct ReaderFace {
 }
 
 // Where a stage stands: all false where it is closed.
-#[derive(Drop)]
+#[derive(Clone, Copy)]
 pub struct StageRow {
     pub idle: bool,
     pub asked: bool,

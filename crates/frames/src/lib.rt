@@ -17,7 +17,7 @@ const RESET: u8 = 6;
 const MOST_BITS: usize = 2120;
 
 // What stands at the front of a slice.
-#[derive(Drop)]
+#[derive(Clone, Copy)]
 pub enum Scanned {
     Refused(Refusal),
     // A payload of `count` bits from `start` up to `end`, where the next frame begins.
@@ -30,7 +30,7 @@ pub enum Scanned {
 }
 
 // What a write did.
-#[derive(Drop)]
+#[derive(Clone, Copy)]
 pub enum Written {
     Refused(Refusal),
     // The place behind the frame.

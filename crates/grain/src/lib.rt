@@ -12,7 +12,7 @@ ghost use Rattle.grain.specs.Mac.{padding, taken, filled, absorbed, authenticate
 ghost use Rattle.grain.specs.Stored.{width_of, bits_r, register_of, state_of, engine_of, mac_of, session_of, outputs_of, pair_of, keystream_of, place_of, terms};
 
 // Who is authenticated (Table 2): the tag, the interrogator, or both.
-#[derive(Drop)]
+#[derive(Clone, Copy)]
 pub enum Method {
     Ta,
     Ia,
@@ -20,28 +20,28 @@ pub enum Method {
 }
 
 // The size of the MAC (Table 4, bit 0).
-#[derive(Drop)]
+#[derive(Clone, Copy)]
 pub enum Width {
     Mac32,
     Mac64,
 }
 
 // 128 bits: bit 0 is the highest of `first`.
-#[derive(Drop)]
+#[derive(Clone, Copy)]
 pub struct Register {
     pub first: u64,
     pub last: u64,
 }
 
 // The NFSR b and the LFSR s.
-#[derive(Drop)]
+#[derive(Clone, Copy)]
 pub struct Engine {
     pub b: Register,
     pub s: Register,
 }
 
 // A generator with the MAC's accumulator and shift register, each a number of w bits.
-#[derive(Drop)]
+#[derive(Clone, Copy)]
 pub struct Session {
     pub engine: Engine,
     pub acc: u64,
@@ -49,14 +49,14 @@ pub struct Session {
 }
 
 // Bits that were put out, the first highest, and the generator after them.
-#[derive(Drop)]
+#[derive(Clone, Copy)]
 pub struct Outputs {
     pub word: u64,
     pub engine: Engine,
 }
 
 // A pair of outputs, and the generator after it.
-#[derive(Drop)]
+#[derive(Clone, Copy)]
 pub struct Pair {
     pub key: bool,
     pub mac: bool,

@@ -15,7 +15,7 @@ pub const DATA_BITS: usize = 2048;
 pub const NUMBER_LIMIT: u64 = 1 << 48;
 
 // The fields that both authentication commands begin with.
-#[derive(Drop)]
+#[derive(Clone, Copy)]
 pub struct Fields {
     pub method: u8,
     pub step: u8,
@@ -24,7 +24,7 @@ pub struct Fields {
 }
 
 // An authentication's payload, by its fields.
-#[derive(Drop)]
+#[derive(Clone, Copy)]
 pub enum Payload {
     StepZero {
         method: u8,
@@ -53,7 +53,7 @@ pub enum Payload {
 }
 
 // Three fields, one behind the other: x in a bits, y in b and z in c.
-#[derive(Drop)]
+#[derive(Clone, Copy)]
 struct Parts {
     a: usize,
     x: u64,

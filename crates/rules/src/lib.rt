@@ -11,7 +11,7 @@ ghost use Rattle.rules.specs.Calls.{message_shown};
 use payloads::Fields;
 
 // What a call answers (document 01's table, in the order of its numbers).
-#[derive(Drop)]
+#[derive(Clone, Copy)]
 pub enum Answer {
     Done,
     BadBook,
@@ -30,7 +30,7 @@ pub enum Answer {
 // ---- the order
 
 // The checks that keep the state, each true where it refuses, in their order.
-#[derive(Drop)]
+#[derive(Clone, Copy)]
 pub struct Keeping {
     pub buffer: bool,
     pub argument: bool,
@@ -40,7 +40,7 @@ pub struct Keeping {
 }
 
 // The checks that close it, which stand behind those.
-#[derive(Drop)]
+#[derive(Clone, Copy)]
 pub struct Closing {
     pub kind: bool,
     pub length: bool,
@@ -50,7 +50,7 @@ pub struct Closing {
 }
 
 // What the checks say: refuse, and keep the state or close it; or go on.
-#[derive(Drop)]
+#[derive(Clone, Copy)]
 pub enum Verdict {
     Refuse { closes: bool, answer: Answer },
     Go,
@@ -72,7 +72,7 @@ pub fn if_sound(sound: bool, v: Verdict) -> Verdict
 // ---- the tag
 
 // What a command shows of itself.
-#[derive(Drop)]
+#[derive(Clone, Copy)]
 pub struct Shown {
     pub kind: u8,
     pub count: usize,
@@ -87,7 +87,7 @@ pub struct Shown {
 }
 
 // What a command does where nothing refuses it: step 0, step 1, a message.
-#[derive(Drop)]
+#[derive(Clone, Copy)]
 pub enum Work {
     Start,
     Prove,
@@ -97,7 +97,7 @@ pub enum Work {
 // ---- the reader
 
 // What begin shows of itself.
-#[derive(Drop)]
+#[derive(Clone, Copy)]
 pub struct ShownBegin {
     pub method: u8,
     pub options: u8,
@@ -108,7 +108,7 @@ pub struct ShownBegin {
 }
 
 // What an authentication response shows of itself.
-#[derive(Drop)]
+#[derive(Clone, Copy)]
 pub struct ShownReply {
     pub count: usize,
     pub beyond: bool,
@@ -118,7 +118,7 @@ pub struct ShownReply {
 }
 
 // What a response does where nothing refuses it: TA's comparison, the step 1 command, a failure, IA's status, MA's comparison.
-#[derive(Drop)]
+#[derive(Clone, Copy)]
 pub enum ReplyWork {
     Compare,
     Answer,
@@ -130,7 +130,7 @@ pub enum ReplyWork {
 // ---- both
 
 // What a message shows of itself, to its sender or to its receiver.
-#[derive(Drop)]
+#[derive(Clone, Copy)]
 pub struct ShownMessage {
     pub kind: u8,
     pub count: usize,

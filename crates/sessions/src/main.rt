@@ -57,7 +57,7 @@ const IA_FEATURE: usize = 6;
 const LINE_BYTES: usize = 24 + 2 * Tag::REPLY_BYTES;
 
 // Both machines, and the bits of the last call's reply, which the other machine is given.
-#[derive(Drop)]
+#[derive(Clone, Copy)]
 struct Run {
     reader: Reader,
     tag: Tag,

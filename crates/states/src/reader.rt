@@ -8,7 +8,7 @@ use faces::{ReaderFace, Stage};
 use grain::{Engine, Register, Session};
 
 // What a verdict may look at, and what it may not.
-#[derive(Drop)]
+#[derive(Clone, Copy)]
 pub struct ReaderState {
     face: ReaderFace,
     session: Session,

@@ -7,7 +7,7 @@ use faces::{Face, Name};
 use grain::{Engine, Method, Session};
 
 // What a verdict may look at, and what it may not.
-#[derive(Drop)]
+#[derive(Clone, Copy)]
 pub struct TagState {
     face: Face,
     session: Session,

@@ -16,13 +16,13 @@ use rules::{Answer, Shown, ShownBegin, Verdict};
 use states::{ReaderState, TagState};
 
 // A tag: its stored state, and its calls.
-#[derive(Drop)]
+#[derive(Clone, Copy)]
 pub struct Tag {
     pub state: TagState,
 }
 
 // What a tag's call gives: the tag after it, the answer, and how many bits the reply has.
-#[derive(Drop)]
+#[derive(Clone, Copy)]
 pub struct Step {
     pub next: Tag,
     pub answer: Answer,
@@ -30,13 +30,13 @@ pub struct Step {
 }
 
 // A reader: its stored state, and its calls.
-#[derive(Drop)]
+#[derive(Clone, Copy)]
 pub struct Reader {
     pub state: ReaderState,
 }
 
 // What a reader's call gives.
-#[derive(Drop)]
+#[derive(Clone, Copy)]
 pub struct ReaderStep {
     pub next: Reader,
     pub answer: Answer,

@@ -10,7 +10,7 @@ use grain::{Session, Width};
 use states::session;
 
 // What a message that came is found to be: the session after it, whether its MAC is the receiver's, and how many data bits it has.
-#[derive(Drop)]
+#[derive(Clone, Copy)]
 pub struct Received {
     pub session: Session,
     pub same: bool,
