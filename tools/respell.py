@@ -66,7 +66,8 @@ def main(root):
     speller = Speller(table)
     for folder in ("crates", "docs"):
         for place, dirs, files in os.walk(os.path.join(root, folder)):
-            dirs[:] = sorted(d for d in dirs if d != "out")
+            made = os.path.dirname(place) == os.path.join(root, "crates")
+            dirs[:] = sorted(d for d in dirs if not (made and d == "out"))
             for name in sorted(files):
                 turn(speller, root, os.path.join(place, name))
     turn(speller, root, os.path.join(root, "README.md"))
