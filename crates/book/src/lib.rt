@@ -1,5 +1,7 @@
 // The key book (document 01, "Replies and refusals"): records of a KeyID and a key, in a lent slice. No public function has a
 // `requires`: any slice is a book, and `sound` says whether it is one to work with.
+#![tactic(auto)]
+
 ghost use Rattle.std.specs.Prelude.{◌≡◌, ◌≤◌};
 ghost use Rattle.book.specs.Book.{records_of, key_ids, rising, sound_of, place_in, key_of};
 

@@ -1,6 +1,8 @@
 // Payloads (document 01, "Payloads, first bit highest in its byte"): the fields of a lent payload, an authentication's payload
 // written, the parts of a message, and what options ask and features offer (Tables 4 and 5). No public function has a
 // `requires`: a field past a slice's end is zero, and what has no room is dropped.
+#![tactic(auto)]
+
 ghost use Rattle.std.specs.Prelude.{◌≡◌, ◌++◌, ◌≤◌, ◌<◌, length};
 ghost use Rattle.bits.specs.Bits.{bits_of};
 ghost use Rattle.bits.specs.Bytes.{bits_of_bytes, field_of};
