@@ -1,5 +1,7 @@
 // The faces of tag and reader (document 01, "Tag machine", "Reader machine"): the public parts of a stored state, the tables of
 // states, and what the public parts must be. No public function has a `requires`.
+#![tactic(auto)]
+
 pub mod reader;
 pub mod tag;
 

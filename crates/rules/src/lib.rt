@@ -1,5 +1,7 @@
 // The rules of tag and reader (document 01, "Tag machine", "Reader machine", "Replies and refusals"), on public parts alone: the
 // one order of refusals, and what each call is refused for. No public function has a `requires`.
+#![tactic(auto)]
+
 mod order;
 pub mod reader;
 pub mod tag;
