@@ -1,6 +1,8 @@
 // Grain-128A (Annex C and clause 9 of ISO/IEC 29167-13): the pre-output generator, its start, the keystream and the MAC. No
 // public function has a `requires`. A message is the first bits of a lent slice; where its count goes past the slice, it is the
 // bits that are there.
+#![tactic(auto)]
+
 mod taps;
 
 ghost use Rattle.std.specs.Prelude.{◌≡◌, cond, false, ℕ, ◌<◌, ◌≤◌, ◌^◌, ◌%◌, get_or, length, take};

@@ -1,0 +1,9 @@
+-- `grain::Engine::load` meets its contract.
+use Rattle.grain.proofs.Loading.{load_engine}
+use borrow.Author.Rules.{rules}
+use Rattle.grain.proofs.Engine.load.Goals as goal
+
+pub returns : goal.returns
+returns c =
+    let a = c.args in
+    load_engine a.key a.method a.reader a.tag c.proving-proves.result (search rules) (search rules) c.proving-proves.ensures.0 c.proving-proves.ensures.1

@@ -1,0 +1,13 @@
+-- `grain::Session::absorb` meets its contract. The invariant: the rest of the message gives the whole.
+use mathlib.Core.Path.{◌≡◌}
+use Prim.Native.Nat.{ℕ, ◌≤◌, ◌<◌, ◌-◌}
+use lib.ListN.{take, drop}
+use Rattle.bits.specs.Bytes.{bits_of_bytes}
+use Rattle.grain.specs.Mac.{absorbed}
+use Rattle.grain.specs.Stored.{mac_of}
+use Rattle.grain.proofs.Session.absorb.Given as goal
+
+abbrev pub invariant-loop-i : goal.invariant-loop-i
+invariant-loop-i l =
+    (l.i ≤ l.count)
+    × ((w : ℕ) → 0 < w → w ≤ 64 → absorbed (take (l.count - l.i) (drop l.i (bits_of_bytes l.bytes))) (mac_of w l.x) ≡ absorbed (take l.count (bits_of_bytes l.bytes)) (mac_of w l.initial.x))
