@@ -2,6 +2,8 @@
 // the last, in its shortest form (document 01, "Host frames"); its place says what it may be at most. A word has ten groups, so
 // no call here goes deeper than ten. No public function has a `requires`: every slice, every place and every limit gets an
 // answer.
+#![tactic(auto)]
+
 ghost use Rattle.std.specs.Prelude.{◌≡◌, ◌/◌, ◌≤◌, ◌<◌, length};
 ghost use Rattle.std.proofs.lemmas.List.Edits.{sets};
 ghost use Rattle.counts.specs.Refusal.{number_of};
