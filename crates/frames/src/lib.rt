@@ -1,5 +1,7 @@
 // Host frames: a kind byte, a bit count, and the payload's bytes (document 01, "Host frames"). No public function has a
 // `requires`: every slice and every place gets an answer.
+#![tactic(auto)]
+
 ghost use Rattle.std.specs.Prelude.{◌≡◌, ◌+◌, ◌≤◌, [], ◌∷◌, length, take, drop};
 ghost use Rattle.std.proofs.lemmas.List.Edits.{sets};
 ghost use Rattle.counts.specs.Count.{count_bytes};
