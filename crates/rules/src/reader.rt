@@ -89,6 +89,7 @@ fn reply_length(row: StageRow, method: u8, count: usize, status: u8) -> bool
 }
 
 // What is done where nothing is refused.
+#[tactic(auto, unfolding(crate::specs::ReaderRules::reply_work))]
 pub fn reply_work(f: ReaderFace, status: u8) -> ReplyWork
     ensures { result ≡ reply_work f status }
 {
