@@ -8,13 +8,8 @@ use lib.Dec.{eqb, ltb}
 use lib.Pow.{pow_pos, pow_mono, split}
 use borrow.Author.Tests.{lt-ltb, eq-eqb, ne_eqb, ltb-true, ltb-false}
 use borrow.Author.Rules.{rules}
-use Rattle.states.proofs.session.above.Statement.{statement}
-use Rattle.states.proofs.session.above.Tie as tie
+use Rattle.states.proofs.session.above.Goals as goal
 
-shr-result : tie.Need-overflow-shr-result
-shr-result c = search rules
-
--- nothing is left above the w low bits exactly where x is above 2 ^ w
 none_left : (x w : ℕ) → eqb (x / 2 ^ w) 0 ≡ ltb x (2 ^ w)
 none_left x w = go (ltb x (2 ^ w)) refl
   where
@@ -25,11 +20,8 @@ none_left x w = go (ltb x (2 ^ w)) refl
         above : 2 ^ w ≤ x → x / 2 ^ w ≡ 0 → ⊥
         above h z = omega (arith, rw z at (split x w), mod-lt x (pow_pos w))
 
-returns : tie.Need-returns
-returns c = none_left c.before.args.x c.before.args.w
+pub returns-then-w-lt64 : goal.returns-then-w-lt64
+returns-then-w-lt64 c = none_left c.args.x c.args.w
 
-returns-2 : tie.Need-returns-2
-returns-2 c = sym (lt-ltb _ _ (lt_of_lt_of_le (search rules) (pow_mono {i = 64} c.if1.false)))
-
-pub above-spec : {M : Type 1} → statement M
-above-spec = tie.close (tie.spec shr-result returns returns-2)
+pub returns : goal.returns
+returns c = sym (lt-ltb _ _ (lt_of_lt_of_le (search rules) (pow_mono {i = 64} c.if-w-lt64.false)))
