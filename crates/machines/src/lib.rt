@@ -1,1 +1,2 @@
 // No code: what each call of tag and reader does, as definitions (specs/) and laws (proofs/).
+#![tactic(auto)]
