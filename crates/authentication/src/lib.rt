@@ -1,6 +1,8 @@
 // The steps of an authentication at tag and reader, by value: the cipher, the one comparison, the next state and the reply by its
 // fields. Keys, keystream and numbers choose no branch here but through the verdict of a whole comparison. No public function has a
 // `requires`.
+#![tactic(auto)]
+
 pub mod reader;
 pub mod tag;
 

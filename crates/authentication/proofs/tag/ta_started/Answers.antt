@@ -1,0 +1,7 @@
+-- `authentication::tag::ta_started` meets its contract.
+use Rattle.states.specs.Sessions.{next_keystream}
+use Rattle.authentication.proofs.tag.ta_started.Goals as goal
+
+pub returns : goal.returns
+unfolding next_keystream
+returns c = rw (c.opened-next.ensures, c.with_engine.ensures, c.keystream-ks.ensures)
