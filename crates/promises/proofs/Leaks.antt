@@ -88,7 +88,7 @@ module _ (change : TagState → Command → List ℕ → Given TagState → Give
   unfolding Silent
   both p q =
       let calls : List (Demand3.Call × Demand3.Call) = (call (opening Ia 0), call (opening Ia 0)) ∷ (call (guess 0 x), call (guess 0 y)) ∷ [] in
-      let h = (from_reset _ d calls (commands (alike_keys _ 2 0 0 0 _ 64))).1 in
+      let h = (from_reset (on_mismatch change) d calls (commands (alike_keys _ 2 0 0 0 _ 64))).1 in
       let k = rw (opens Ia 0, face-begun) at h in
       let m = (k (commands (alike_guesses 0 0 x y))).0 in
       let n = rw (mismatch 0 x u, mismatch 0 y v) at m in
@@ -168,7 +168,7 @@ off_wrong k = at (digit 63 (word k)) refl
 pub keeps_key_lem : Demand3 keeps_key → ⊥
 unfolding Silent
 keeps_key_lem d =
-    let h = (from_reset _ d (keyed (opening Ia) ∷ keyed (λ k. guess k (off k)) ∷ []) (commands (alike_keys _ 2 0 128 0 _ 64))).1 in
+    let h = (from_reset keeps_key d (keyed (opening Ia) ∷ keyed (λ k. guess k (off k)) ∷ []) (commands (alike_keys _ 2 0 128 0 _ 64))).1 in
     let k = rw (opens Ia 0, opens Ia 128, face-begun) at h in
     let m = (k (commands (alike_guesses 0 128 (off 0) (off 128)))).0 in
     let n = rw (mismatch 0 (off 0) (off_wrong 0), mismatch 128 (off 128) (off_wrong 128), order_of (begun_face false 5) (guess 0 (off 0)) 265 Go (goes 0 (off 0))) at m in

@@ -157,7 +157,7 @@ unfolding Silent
 both d m n u v =
     let calls : List (Demand3.Call × Demand3.Call)
     = (call (opening Ma 0), call (opening Ma 0)) ∷ (call proof, call proof) ∷ (call (secret false m), call (secret true n)) ∷ [] in
-    let h = (from_reset _ d calls (commands (alike_keys _ 0 0 0 0 _ 64))).1 in
+    let h = (from_reset leaves_decrypted d calls (commands (alike_keys _ 0 0 0 0 _ 64))).1 in
     let k = ((rw (opens Ma 0, face-begun) at h) (commands (alike_keys _ 31 0 0 0 _ 80))).1 in
     let p = ((rw (proves, face-open, secrets_open) at k) (commands (alike_secrets m n))).0 in
     let q = (rw (mismatch false m u, mismatch true n v, order_of (open_by Ma 5 2) (secret false m) 265 Go (receiving false m)) at p).1.area in

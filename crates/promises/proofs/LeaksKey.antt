@@ -51,7 +51,7 @@ not_for_reset k = refl
 pub tells_key_lem : Demand3 tells_key → ⊥
 unfolding Silent face_of reset_tag tag_of bits_of_bytes bits_of digit
 tells_key_lem d =
-    let m = (from_reset _ d (keyed message ∷ []) (commands (alike_keys _ 31 0 128 1 _ 0))).0 in
+    let m = (from_reset tells_key d (keyed message ∷ []) (commands (alike_keys _ 31 0 128 1 _ 0))).0 in
     let n = rw (not_for_reset 0, not_for_reset 128) at m in
     omega (arith, n.answer)
 
@@ -74,7 +74,7 @@ refuses_short k = rw (soundly (sound_of (asked k)) _ (begun-sound false 5 (engin
 pub tells_early_lem : Demand3 tells_early → ⊥
 unfolding Silent bits_of_bytes bits_of digit
 tells_early_lem d =
-    let h = (from_reset _ d (keyed (opening Ia) ∷ keyed short ∷ []) (commands (alike_keys _ 2 0 128 0 _ 64))).1 in
+    let h = (from_reset tells_early d (keyed (opening Ia) ∷ keyed short ∷ []) (commands (alike_keys _ 2 0 128 0 _ 64))).1 in
     let m = ((rw (opens Ia 0, opens Ia 128, face-begun) at h) (commands (alike_keys _ 31 0 128 0 _ 72))).0 in
     let n = rw (refuses_short 0, refuses_short 128, order_of (begun_face false 5) (short 0) 265 (Refuse true WrongLength) (too_short 0)) at m in
     omega (arith, n.answer)
@@ -102,7 +102,7 @@ pub tells_zeros_lem : Demand3 tells_zeros → ⊥
 unfolding Silent bits_of_bytes bits_of digit num_of padded field_of zeros_of
 tells_zeros_lem d =
     let calls : List (Demand3.Call × Demand3.Call) = (call (opening Ta 0), call (opening Ta 0)) ∷ (call (update 0), call (update 1)) ∷ [] in
-    let h = (from_reset _ d calls (commands (alike_keys _ 5 0 0 0 _ 64))).1 in
+    let h = (from_reset tells_zeros d calls (commands (alike_keys _ 5 0 0 0 _ 64))).1 in
     let a = alike_but _ 31 0 0 3 (update 0).payload (update 1).payload 40 refl (λ k. absurd (omega (arith, k))) (λ k. absurd (true≢false (sym k))) in
     let m = ((rw (opens Ta 0, face-open) at h) (commands a)).0 in
     let n = rw (refuses_update 0, refuses_update 1) at m in
@@ -129,7 +129,7 @@ bits_differ e = true≢false (sym e)
 pub marks_features_lem : Demand3 marks_features → ⊥
 unfolding Silent layout_of tag_challenge bits_of
 marks_features_lem d =
-    let m = (from_reset _ d (keyed (opening Ia) ∷ []) (commands (alike_keys _ 2 0 128 0 _ 64))).0 in
+    let m = (from_reset marks_features d (keyed (opening Ia) ∷ []) (commands (alike_keys _ 2 0 128 0 _ 64))).0 in
     let n = rw (opens Ia 0, opens Ia 128) at m in
     bits_differ (sym (first_public _) ∙ ap first n.reply ∙ first_public _)
 
@@ -166,7 +166,7 @@ buffers_differ e = true≢false (sym e)
 pub leaves_earlier_lem : Demand3 leaves_earlier → ⊥
 unfolding Silent
 leaves_earlier_lem d =
-    let m = (from_reset _ d ((call (opening Ia 0), Demand3.command (opening Ia 0) used) ∷ []) (commands (alike_buffers _ (opening Ia 0)))).0 in
+    let m = (from_reset leaves_earlier d ((call (opening Ia 0), Demand3.command (opening Ia 0) used) ∷ []) (commands (alike_buffers _ (opening Ia 0)))).0 in
     let n = rw (opens Ia 0) at m in
     buffers_differ (ap first n.reply)
 
@@ -176,7 +176,7 @@ leaves_earlier_lem d =
 pub error_tells_lem : Demand3 error_tells → ⊥
 unfolding Silent bits_of_bytes bits_of digit
 error_tells_lem d =
-    let h = (from_reset _ d (keyed (opening Ia) ∷ (Demand3.error_type, Demand3.error_type) ∷ []) (commands (alike_keys _ 2 0 128 0 _ 64))).1 in
+    let h = (from_reset error_tells d (keyed (opening Ia) ∷ (Demand3.error_type, Demand3.error_type) ∷ []) (commands (alike_keys _ 2 0 128 0 _ 64))).1 in
     let m = ((rw (opens Ia 0, opens Ia 128, face-begun false 5 (engine Ia 0), face-begun false 5 (engine Ia 128)) at h) error_types).0 in
     omega (arith, m.answer)
 
@@ -184,7 +184,7 @@ error_tells_lem d =
 pub close_tells_lem : Demand3 close_tells → ⊥
 unfolding Silent bits_of_bytes bits_of digit
 close_tells_lem d =
-    let h = (from_reset _ d (keyed (opening Ia) ∷ (Demand3.close, Demand3.close) ∷ []) (commands (alike_keys _ 2 0 128 0 _ 64))).1 in
+    let h = (from_reset close_tells d (keyed (opening Ia) ∷ (Demand3.close, Demand3.close) ∷ []) (commands (alike_keys _ 2 0 128 0 _ 64))).1 in
     let m = ((rw (opens Ia 0, opens Ia 128, face-begun) at h) closes).0 in
     let n : ◌≡◌ {A = ℕ} 0 1 = ap (λ (f : Face). f.keyid) (sym (face-of _ _) ∙ m.seen ∙ face-of _ _) in
     omega (arith, n)

@@ -115,10 +115,10 @@ module _ (M : Runs) (I : Inside M) (Q : Quiet M I) where
           failed-next v c g h (Q.sound s c k.0.left) (Q.sound t d k.0.right) s t k.1 k.2 (Q.agree s t c d k.0 e a)
       go false e apart k = (tt, tt)
 
-  silent : (z : Standing) (s t : M.State) → Known z s t → (ps : List (M.Call × M.Call)) → Silent M z s t ps
+  silent : (ps : List (M.Call × M.Call)) (z : Standing) (s t : M.State) → Known z s t → Silent M z s t ps
   unfolding Silent
-  silent z s t k [] = tt
-  silent z s t k (p ∷ ps) = λ a. let h = step z s t p.0 p.1 k a in (h.0, silent _ _ _ h.1 ps)
+  silent [] z s t k = tt
+  silent (p ∷ ps) z s t k = λ a. let h = step z s t p.0 p.1 k a in (h.0, silent ps _ _ _ h.1)
 
   pub quiet : Silence M
-  quiet s t ps = silent apart s t tt ps
+  quiet s t ps = silent ps apart s t tt

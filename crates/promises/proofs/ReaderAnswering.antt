@@ -30,7 +30,7 @@ use Rattle.states.specs.ReaderStates.{reader_face_of, reader_secrets_of, reader_
 use Rattle.states.proofs.ReaderStates.{face-shut, face_asked, face-filled, face-opened, face-moved}
 use Rattle.machines.specs.ReaderWork.{begin_of, answer_session, matched, compare_of, answer_of, confirm_of, answered_by, replied_of, sent_by, sending_of, received_by, receiving_of}
 use Rattle.machines.proofs.ReaderSound.{reader-face-sound, begin-sound, replied-sound, sending_sound, receiving_sound}
-use Rattle.promises.specs.Order.{received_leads, sent_leads, Leads, done, failed}
+use Rattle.promises.specs.Order.{received_leads, sent_leads, Leads, failed}
 use Rattle.promises.specs.ReaderTable.{bare_face, begin_checks, begin_leads, open_leads, step_one_leads, reply_leads, reply_checks, send_checks, receive_checks}
 use Rattle.promises.proofs.Fitting.{Whole, payload-fits}
 use Rattle.promises.proofs.Ordered.{Says, Works, always_right, called}

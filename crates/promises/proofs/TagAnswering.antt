@@ -33,7 +33,7 @@ use Rattle.states.specs.TagStates.{face_of, secrets_of, sound_of, closed_tag}
 use Rattle.states.proofs.TagStates.{face-begun, face-closed, face-failed, face-open, face_with}
 use Rattle.machines.specs.TagWork.{ta_started, challenged, started_by, start_of, proved_by, prove_of, receive_of, send_of, worked_of, carried_of, command_of, response_of}
 use Rattle.machines.proofs.TagSound.{face-sound, command-sound, response-sound}
-use Rattle.promises.specs.Order.{sent_leads, Leads, done, failed}
+use Rattle.promises.specs.Order.{sent_leads, Leads, failed}
 use Rattle.promises.specs.TagTable.{closing, opening, waiting, takes, step_one_leads, command_leads, message_in, command_checks, response_checks}
 use Rattle.promises.proofs.Fitting.{Whole, payload-fits}
 use Rattle.promises.proofs.Ordered.{Says, Works, always_right, called}

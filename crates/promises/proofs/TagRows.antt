@@ -4,7 +4,6 @@ use mathlib.Core.Bool.{Bool, true, false, not, cond, ◌&&◌, ◌||◌, true≢
 use mathlib.Core.List.{List}
 use Prim.Native.Nat.{ℕ}
 use lib.Dec.{eqb}
-use lib.ListN.{length}
 use borrow.Author.Tests.{eqb-true, not-false}
 use Rattle.bits.specs.Bytes.{bits_of_bytes}
 use Rattle.payloads.specs.Payloads.{method_in, step_in, securing, zeros_of}

@@ -1,7 +1,7 @@
 -- Document 01, "Tag machine", line by line: for each call of the tag which check refuses, and where a call leads. It is said of what
 -- the tag shows, and apart from the tables of `faces` and `rules` that the code is proved by; the payload rules and the book are
 -- shared. Assumes nothing.
-use Rattle.std.specs.Prelude.{Bool, true, false, not, cond, ◌&&◌, ◌||◌, List, [], ◌∷◌, ◌++◌, ℕ, ◌+◌, ◌*◌, ◌^◌, ltb, leb, eqb, length}
+use Rattle.std.specs.Prelude.{Bool, true, false, not, cond, ◌&&◌, ◌||◌, List, [], ◌∷◌, ◌++◌, ℕ, ◌*◌, ◌^◌, ltb, leb, eqb, length}
 use Rattle.std.specs.Bool.{beq}
 use Rattle.bits.specs.Bits.{bits_of}
 use Rattle.bits.specs.Bytes.{bits_of_bytes}
