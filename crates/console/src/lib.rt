@@ -1,19 +1,22 @@
 // A line of text on standard output. No public function has a `requires`: what would stand past the buffer's end is dropped, as
 // in `text`.
+#![tactic(auto)]
+
 ghost use Rattle.std.specs.Prelude.{◌≡◌};
 ghost use Rattle.console.specs.Line.{ended};
 
-use libc::STDOUT_FILENO;
+use std::io;
 
 // The text of `line` up to `at`, with a line's end behind it, in one write. Where the line's end has no room, the buffer's text is
-// written without it. The contract says how the buffer is left: what is written no contract can say.
-pub fn print(line: &mut [u8], at: usize)
+// written without it. The contract says how the buffer is left, whether the write failed or not: what is written no contract can
+// say.
+pub fn print(rt: &impl Print, line: &mut [u8], at: usize) -> io::Result<()>
     ensures { line.new ≡ ended line.old at }
 {
     let end = text::put(line, at, b"\n");
     if end < line.len() {
-        io::write_all(STDOUT_FILENO, &line[..end]);
+        rt.write_all(&line[..end])
     } else {
-        io::write_all(STDOUT_FILENO, line);
+        rt.write_all(line)
     }
 }

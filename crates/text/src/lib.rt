@@ -1,5 +1,7 @@
 // The text of a line, in ASCII, written into a lent buffer from a place on. Every function answers the place behind its text. No
 // public function has a `requires`: what would stand past the buffer's end is dropped.
+#![tactic(auto)]
+
 ghost use Rattle.std.specs.Prelude.{◌≡◌, [], ◌∷◌, ◌<◌, min, take};
 ghost use Rattle.text.specs.Text.{Writes, decimal_of, hex_of, hex_byte, spaced_of, reply_of};
 ghost use Rattle.text.specs.Text.{digit as Text·digit};
@@ -16,6 +18,7 @@ pub fn put(out: &mut [u8], at: usize, text: &[u8]) -> usize
 }
 
 // A number in decimal digits, with no zero in front.
+#[tactic(auto, using(crate::proofs::Digits::decimal_one))]
 pub fn decimal(out: &mut [u8], at: usize, n: u64) -> usize
     ensures { Writes (decimal_of n) out.old at out.new result }
 {
