@@ -1,7 +1,12 @@
 // `tagrun` runs the frames of standard input through one tag and prints a line for each (document 01, "Host frames").
+#![tactic(auto)]
+
+ghost use Rattle.std.specs.Prelude.{◌≤◌, length, IfOk};
+
 use faces::Name;
 use frames::{Refusal, Scanned};
-use libc::{STDIN_FILENO, STDOUT_FILENO};
+use std::io;
+use std::io::Read;
 use suite::{Step, Tag};
 
 // The most bytes that it runs.
@@ -18,18 +23,33 @@ const NUMBER: u64 = 0x778899AABBCC;
 const LINE_BYTES: usize = 24 + 2 * Tag::REPLY_BYTES;
 
 // One byte more than it runs is asked for, and tells that the input is too long.
-fn main() {
+fn main(rt: HostRuntime) -> io::Result<()> {
     let mut input = [0u8; MOST_BYTES + 1];
-    let n = io::read_full(STDIN_FILENO, &mut input);
+    let n = read_full(&mut rt.stdin(), &mut input)?;
     if MOST_BYTES < n {
-        io::write_all(STDOUT_FILENO, b"input too long\n");
+        rt.write_all(b"input too long\n")
     } else {
-        run(&input[..n]);
+        run(&rt, &input[..n])
     }
 }
 
+// Reads until the buffer is full or the input ends; how many bytes stand in the buffer then.
+fn read_full<R: Read>(from: &mut R, buffer: &mut [u8]) -> io::Result<usize>
+    ensures { IfOk result (λ n. n ≤ length buffer.new) }
+{
+    let mut at = 0;
+    while at < buffer.len() {
+        let n = from.read(&mut buffer[at..])?;
+        if n == 0 {
+            break;
+        }
+        at += n;
+    }
+    Ok(at)
+}
+
 // A bad frame ends the run.
-fn run(input: &[u8]) {
+fn run(rt: &impl Print, input: &[u8]) -> io::Result<()> {
     let mut tag = fresh();
     let mut number: u64 = 0;
     let mut at: usize = 0;
@@ -38,8 +58,7 @@ fn run(input: &[u8]) {
         let rest = &input[at..];
         match frames::scan(rest) {
             Scanned::Refused(why) => {
-                print_refusal(number, why);
-                return;
+                return print_refusal(rt, number, why);
             }
             Scanned::Frame {
                 kind,
@@ -47,11 +66,12 @@ fn run(input: &[u8]) {
                 start: _,
                 end,
             } => {
-                tag = run_frame(tag, number, kind, frames::payload(rest), count);
+                tag = run_frame(rt, tag, number, kind, frames::payload(rest), count)?;
                 at += end;
             }
         }
     }
+    Ok(())
 }
 
 // The tag as a reset leaves it.
@@ -61,27 +81,34 @@ fn fresh() -> Tag {
 }
 
 // Runs a frame and prints its line; the tag after it.
-fn run_frame(tag: Tag, number: u64, kind: u8, payload: &[u8], count: usize) -> Tag {
+fn run_frame(
+    rt: &impl Print,
+    tag: Tag,
+    number: u64,
+    kind: u8,
+    payload: &[u8],
+    count: usize,
+) -> io::Result<Tag> {
     // KeyID 05 and the key of Annex D's set 6.
     let book = b"\x05\x01\x23\x45\x67\x89\xAB\xCD\xEF\xFE\xDC\xBA\x98\x76\x54\x32\x10";
     let mut reply = [0u8; Tag::REPLY_BYTES];
     let step = host::run(
         tag, kind, payload, count, FEATURES, book, NUMBER, &mut reply,
     );
-    print_step(number, step, &reply);
-    step.next
+    print_step(rt, number, step, &reply)?;
+    Ok(step.next)
 }
 
 // Frame number, refusal.
-fn print_refusal(number: u64, why: Refusal) {
+fn print_refusal(rt: &impl Print, number: u64, why: Refusal) -> io::Result<()> {
     let mut line = [0u8; LINE_BYTES];
     let at = text::spaced(&mut line, 0, number);
     let at = text::decimal(&mut line, at, why.number() as u64);
-    console::print(&mut line, at);
+    console::print(rt, &mut line, at)
 }
 
 // Frame number, answer, state, reply bits, reply.
-fn print_step(number: u64, step: Step, reply: &[u8]) {
+fn print_step(rt: &impl Print, number: u64, step: Step, reply: &[u8]) -> io::Result<()> {
     let answer = step.answer;
     let name = step.next.state.face().name;
     let mut line = [0u8; LINE_BYTES];
@@ -90,7 +117,7 @@ fn print_step(number: u64, step: Step, reply: &[u8]) {
     let at = put_name(&mut line, at, name);
     let at = text::spaced(&mut line, at, step.bits as u64);
     let at = text::reply(&mut line, at, reply, step.bits);
-    console::print(&mut line, at);
+    console::print(rt, &mut line, at)
 }
 
 // A state's name, and the space behind it.
