@@ -1,6 +1,8 @@
 // The tag and the reader of ISO/IEC 29167-13 as document 01 reads it. No public function has a `requires`: any call, in any
 // state, with any bytes, gets an answer by number, and after it the whole reply area is the reply's bits and then zeros. What a
 // call is refused for `verdicts` decides: whether the stored state is sound, and then `rules` on public parts; the rest is work.
+#![tactic(auto)]
+
 mod message;
 mod reader_work;
 mod tag_work;

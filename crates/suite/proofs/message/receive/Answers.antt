@@ -18,9 +18,7 @@ use Rattle.payloads.specs.Payloads.{data_bits}
 use Rattle.states.specs.Sessions.{after_message, data_of, same_mac}
 use Rattle.states.proofs.Sessions.{length-data_of, received_bits}
 use Rattle.suite.specs.Steps.{came_of, received_of}
-use borrow.Author.Rules.{rules}
-use Rattle.suite.proofs.message.receive.Statement.{statement}
-use Rattle.suite.proofs.message.receive.Tie as tie
+use Rattle.suite.proofs.message.receive.Goals as goal
 
 module _ (v : Width) (secure : Bool) (count : ℕ) (xs before : List ℕ) (x : Session) where
   abbrev came : List Bool
@@ -45,48 +43,9 @@ module _ (v : Width) (secure : Bool) (count : ℕ) (xs before : List ℕ) (x : S
       let verdict : eqb next.acc mac ≡ same_mac v (bits_of_bytes xs) count x = rw (r.0, field, z, k) in
       (rw (verdict, session, amount), rw k at r.1)
 
-bits-requires : tie.Need-bits-requires
-bits-requires c κs = search rules
-
-data-bits-requires : tie.Need-data-bits-requires
-data-bits-requires c κs = search rules
-
-show-requires : tie.Need-show-requires
-show-requires c κs = search rules
-
-receive-requires : tie.Need-receive-requires
-receive-requires c κs = search rules
-
-add-field : tie.Need-overflow-add-field
-add-field c = search rules
-
-field-requires : tie.Need-field-requires
-field-requires c κs = search rules
-
-same_length : tie.Need-same-length
-same_length c = search rules
-
-returns : tie.Need-returns
+pub returns : goal.returns
 returns c =
-    let f = c.before in
-    let b = f.before.before.before in
-    let s = b.before.before.before.before in
-    let d = s.before.before in
-    let o = d.before.before.slice-known.given in
-    let t = d.before.before.before.before in
-    let a = t.args in
+    let o = c.slice_known-1.given in
+    let a = c.args in
     read a.width a.secure a.count a.payload.now a.reply.now a.x _ _ _ _ _ _ o (omega arith) (omega arith) (omega arith)
-    d.before.bits.ensures d.data-bits.ensures s.show.ensures b.receive.ensures f.field.ensures
-
-pub receive-spec : {M : Type 1} → statement M
-receive-spec =
-    tie.close
-    (tie.spec
-    bits-requires
-    data-bits-requires
-    show-requires
-    receive-requires
-    add-field
-    field-requires
-    same_length
-    returns)
+    c.bits-w.ensures c.data_bits-n.ensures c.show.ensures c.receive-session.ensures c.field-mac.ensures

@@ -1,0 +1,27 @@
+-- `suite::Reader::receive` meets its contract.
+use mathlib.Core.Path.{refl, sym, ◌∙◌}
+use lib.ListN.{length}
+use Rattle.rules.specs.Results.{decided}
+use Rattle.rules.proofs.ReaderLaws.{receive-room, receive_receivable}
+use Rattle.rules.proofs.Verdicts.{sound_goes}
+use Rattle.states.proofs.Sessions.{width-stored}
+use Rattle.machines.specs.ReaderWork.{receiving_of}
+use Rattle.machines.proofs.ReaderSound.{reader-face-sound}
+use Rattle.suite.proofs.Reader.receive.Goals as goal
+
+pub receive-requires-in-Go : goal.receive-requires-in-Go
+receive-requires-in-Go c =
+    let a = c.args in
+    let g = sound_goes _ _ (sym c.receive.ensures ∙ c.in-Go.is) in
+    let r = receive_receivable _ _ _ g.1 (reader-face-sound a.self.state g.0) (length a.payload.now) refl in
+    (receive-room _ _ _ g.1, (rw (width-stored _ r.wide r.width) r.least, (r.most, r.within)))
+
+pub returns-in-Refuse : goal.returns-in-Refuse
+unfolding receiving_of decided
+returns-in-Refuse c =
+    rw (sym c.receive.ensures ∙ c.in-Refuse.is) c.refuse.ensures
+
+pub returns-in-Go : goal.returns-in-Go
+unfolding receiving_of decided
+returns-in-Go c =
+    rw (sym c.receive.ensures ∙ c.in-Go.is) c.receive-in-Go.ensures

@@ -1,0 +1,25 @@
+-- `suite::Tag::response` meets its contract.
+use mathlib.Core.Path.{refl, sym, ◌∙◌}
+use lib.ListN.{length}
+use Rattle.rules.specs.Results.{decided}
+use Rattle.rules.proofs.TagLaws.{response_sendable}
+use Rattle.rules.proofs.Verdicts.{sound_goes}
+use Rattle.machines.specs.TagWork.{response_of}
+use Rattle.suite.proofs.Tag.response.Goals as goal
+
+pub send-requires : goal.send-requires
+send-requires c =
+    let a = c.args in
+    let g = sound_goes _ _ (sym c.response.ensures ∙ c.in-Go.is) in
+    let s = response_sendable _ _ g.1 (length a.«data».now) refl in
+    (s.roomy, (s.most, s.within))
+
+pub returns-in-Refuse : goal.returns-in-Refuse
+unfolding response_of decided
+returns-in-Refuse c =
+    rw (sym c.response.ensures ∙ c.in-Refuse.is) c.refuse.ensures
+
+pub returns-in-Go : goal.returns-in-Go
+unfolding response_of decided
+returns-in-Go c =
+    rw (sym c.response.ensures ∙ c.in-Go.is) c.send.ensures

@@ -1,0 +1,22 @@
+-- `suite::tag_work::carry` meets its contract.
+use mathlib.Core.Path.{sym, ◌∙◌}
+use Rattle.rules.specs.Results.{decided}
+use Rattle.rules.proofs.Verdicts.{sound_goes}
+use Rattle.machines.specs.TagWork.{carried_of}
+use Rattle.suite.proofs.tag_work.carry.Goals as goal
+
+pub work-requires : goal.work-requires
+work-requires c =
+    let p = c.requires in
+    let g = sound_goes _ _ (sym c.command.ensures ∙ c.in-Go.is) in
+    (g.0, (p.0, (p.1, g.1)))
+
+pub returns-in-Refuse : goal.returns-in-Refuse
+unfolding carried_of decided
+returns-in-Refuse c =
+    rw (sym c.command.ensures ∙ c.in-Refuse.is) c.refuse.ensures
+
+pub returns-in-Go : goal.returns-in-Go
+unfolding carried_of decided
+returns-in-Go c =
+    rw (sym c.command.ensures ∙ c.in-Go.is) c.work.ensures
