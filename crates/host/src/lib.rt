@@ -1,5 +1,7 @@
 // What a host asks of a tag: the call that each kind of frame is (document 01, "Host frames"). No public function has a
 // `requires`: every kind gets an answer.
+#![tactic(auto)]
+
 ghost use Rattle.std.specs.Prelude.{length};
 ghost use Rattle.rules.specs.Results.{Gives};
 ghost use Rattle.suite.specs.Steps.{tag_step};
@@ -10,6 +12,7 @@ use suite::{Step, Tag};
 // Runs a frame of this kind and the first `count` bits of `payload`; features, key book and number are the tag's, and only a
 // command looks at them. No frame has a kind above 6: such a kind goes to the command, which refuses each above 3 and keeps the
 // tag as it is.
+#[tactic(auto, unfolding(crate::specs::Kinds::ran_of))]
 pub fn run(
     tag: Tag,
     kind: u8,
