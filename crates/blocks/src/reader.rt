@@ -62,6 +62,7 @@ pub fn store(block: &mut [u8], reader: ReaderState)
     parts::put_number(block, 56, face.number);
 }
 
+#[tactic(auto, unfolding(crate::specs::Blocks::stage_of))]
 fn stage(n: u8) -> Stage
     ensures { result ≡ stage_of n }
 {

@@ -64,6 +64,7 @@ pub fn store(block: &mut [u8], tag: TagState)
     parts::put_session(block, session);
 }
 
+#[tactic(auto, unfolding(crate::specs::Blocks::name_of))]
 fn name(n: u8) -> Name
     ensures { result ≡ name_of n }
 {
