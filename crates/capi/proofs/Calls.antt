@@ -1,13 +1,13 @@
 -- What a call leaves, by what its parts gave. Assumes nothing.
 use mathlib.Core.Path.{◌≡◌, refl, sym, ap, ◌∙◌}
-use mathlib.Core.Bool.{Bool, true, false, not}
+use mathlib.Core.Bool.{Bool, true, false}
 use mathlib.Core.List.{List, []}
 use Prim.Native.Nat.{ℕ, ◌*◌}
 use lib.Dec.{eqb}
 use lib.ListN.{length, take}
 use lib.Seq.{take_all}
 use native.Mathlib.Omega.{arith}
-use borrow.Author.Tests.{eqb-true, eq-eqb, ne_eqb, not_true, not-false}
+use borrow.Author.Tests.{eqb-true, eq-eqb, ne_eqb}
 use Rattle.bits.specs.Bytes.{bits_of_bytes}
 use Rattle.bits.specs.Area.{shown}
 use Rattle.bits.proofs.Bools.{and_left}
@@ -27,18 +27,18 @@ use Rattle.blocks.specs.Blocks.{stored_in, tag_bytes, spells_tag, reader_bytes, 
 use Rattle.capi.specs.Calls.{Leaves, kept_with, Blocks, gave, called, reset_called, tag_blocks, reader_blocks, key_given}
 
 -- a test and its denial
-pub denied : (s : Bool) {b : Bool} → s ≡ b → not s ≡ true → b ≡ false
-denied s e h = sym e ∙ not_true s h
+pub denied : (s : Bool) {b : Bool} → s ≡ b → s ≡ false → b ≡ false
+denied s e h = sym e ∙ h
 
-pub granted : (s : Bool) {b : Bool} → s ≡ b → not s ≡ false → b ≡ true
-granted s e h = sym e ∙ not-false s h
+pub granted : (s : Bool) {b : Bool} → s ≡ b → s ≡ true → b ≡ true
+granted s e h = sym e ∙ h
 
 -- what the worker of a refusal leaves
 abbrev pub Refused : ℕ → ℕ → ℕ → List ℕ → List ℕ → Type 0
-Refused answer r bits before after = (r ≡ answer) × ((bits ≡ 0) × (after ≡ shown [] before))
+Refused answer r bits before after = record { value : r ≡ answer; bits_after : bits ≡ 0; reply_after : after ≡ shown [] before }
 
 pub refused : (answer r bits : ℕ) (block before after : List ℕ) → Refused answer r bits before after → Leaves (kept_with answer block) r bits block before after
-refused answer r bits block before after e = record { answered = e.0; counted = e.1.0; stored = refl; replied = e.1.1 }
+refused answer r bits block before after e = record { answered = e.value; counted = e.bits_after; stored = refl; replied = e.reply_after }
 
 -- ---- over a block: the steps of a machine's code, and the blocks of its states
 
@@ -54,26 +54,26 @@ pub record Steps (S T : Type 0) : Type 0 where
 -- what the worker of a step leaves
 abbrev pub Stored : {S T : Type 0} → Steps S T → T → ℕ → ℕ → List ℕ → List ℕ → Type 0
 Stored m s r bits block stored =
-    (r ≡ number_of (m.answer s)) × ((bits ≡ m.count s) × (stored ≡ stored_in m.blocks.bytes (m.blocks.block_of (m.next s)) block))
+    record { value : r ≡ number_of (m.answer s); bits_after : bits ≡ m.count s; state_after : stored ≡ stored_in m.blocks.bytes (m.blocks.block_of (m.next s)) block }
 
 module _ {S T : Type 0} (m : Steps S T) (block : List ℕ) (r bits : ℕ) (before after : List ℕ) where
   stepped : (x : Result S) (s : T) (stored : List ℕ) → length block ≡ m.blocks.bytes → Gives m.step_of x s before after
       → Stored m s r bits block stored → Leaves (gave m.blocks x) r bits stored before after
   stepped x s stored size g e = record {
-    answered = e.0 ∙ ap (λ (t : T). number_of (m.answer t)) g.step ∙ ap number_of (m.parts x).0;
-    counted = e.1.0 ∙ ap m.count g.step ∙ (m.parts x).1.0;
-    stored = rw (eq-eqb _ _ size) at e.1.1 ∙ ap (λ (t : T). m.blocks.block_of (m.next t)) g.step ∙ ap m.blocks.block_of (m.parts x).1.1;
+    answered = e.value ∙ ap (λ (t : T). number_of (m.answer t)) g.step ∙ ap number_of (m.parts x).0;
+    counted = e.bits_after ∙ ap m.count g.step ∙ (m.parts x).1.0;
+    stored = rw (eq-eqb _ _ size) at e.state_after ∙ ap (λ (t : T). m.blocks.block_of (m.next t)) g.step ∙ ap m.blocks.block_of (m.parts x).1.1;
     replied = g.reply;
   }
 
   module _ (spells : Bool) (asked : spells ≡ m.blocks.spells block) (call : S → Result S) where
-    pub spelled : not spells ≡ false → (t : S) → t ≡ m.blocks.state_in block → (s : T) (stored : List ℕ) → Gives m.step_of (call t) s before after
+    pub spelled : spells ≡ true → (t : S) → t ≡ m.blocks.state_in block → (s : T) (stored : List ℕ) → Gives m.step_of (call t) s before after
         → Stored m s r bits block stored → Leaves (called m.blocks block call) r bits stored before after
     unfolding called
     spelled does t is s stored g e =
         rw (granted spells asked does, ← is) (stepped (call t) s stored (m.sized block (granted spells asked does)) g e)
 
-    pub unspelled : not spells ≡ true → Refused (number_of BadState) r bits before after → Leaves (called m.blocks block call) r bits block before after
+    pub unspelled : spells ≡ false → Refused (number_of BadState) r bits before after → Leaves (called m.blocks block call) r bits block before after
     unfolding called
     unspelled lacks e = rw (denied spells asked lacks) (refused _ r bits block before after e)
 

@@ -1,5 +1,7 @@
 // The suite for programs in C and Rust, over numbers and lent bytes; include/kusarehyon.h says what each function does. No function
 // here has a `requires`: any call, with any bytes, gets an answer.
+#![tactic(auto)]
+
 ghost use Rattle.std.specs.Prelude.{◌≡◌, [], ◌∷◌, length};
 ghost use Rattle.bits.specs.Area.{shown};
 ghost use Rattle.book.specs.Book.{sound_of};
@@ -17,8 +19,7 @@ const KEY_BITS: usize = 8 * book::KEY_BYTES;
 
 // ---- the tag
 
-#[unsafe(no_mangle)]
-pub extern "C" fn kusarehyon_tag_reset(state: &mut [u8], reply: &mut [u8], bits: &mut usize) -> u8
+pub fn kusarehyon_tag_reset(state: &mut [u8], reply: &mut [u8], bits: &mut usize) -> u8
     ensures { Leaves (tag_reset_called state.old)
         result bits.new state.new reply.old reply.new }
 {
@@ -29,8 +30,7 @@ pub extern "C" fn kusarehyon_tag_reset(state: &mut [u8], reply: &mut [u8], bits:
     stepped(state, step, bits)
 }
 
-#[unsafe(no_mangle)]
-pub extern "C" fn kusarehyon_tag_command(
+pub fn kusarehyon_tag_command(
     state: &mut [u8],
     kind: u8,
     payload: &[u8],
@@ -54,8 +54,7 @@ pub extern "C" fn kusarehyon_tag_command(
     stepped(state, step, bits)
 }
 
-#[unsafe(no_mangle)]
-pub extern "C" fn kusarehyon_tag_response(
+pub fn kusarehyon_tag_response(
     state: &mut [u8],
     kind: u8,
     data: &[u8],
@@ -76,8 +75,7 @@ pub extern "C" fn kusarehyon_tag_response(
     stepped(state, step, bits)
 }
 
-#[unsafe(no_mangle)]
-pub extern "C" fn kusarehyon_tag_close(state: &mut [u8]) -> u8
+pub fn kusarehyon_tag_close(state: &mut [u8]) -> u8
     ensures value { result ≡ close_answer state.old }
     ensures state_after { state.new ≡ closed_block state.old }
 {
@@ -92,8 +90,7 @@ pub extern "C" fn kusarehyon_tag_close(state: &mut [u8]) -> u8
     Answer::Done.number()
 }
 
-#[unsafe(no_mangle)]
-pub extern "C" fn kusarehyon_tag_error_type(state: &[u8]) -> u8
+pub fn kusarehyon_tag_error_type(state: &[u8]) -> u8
     ensures { result ≡ error_type_called state.now }
 {
     if !blocks::tag::spells(state) {
@@ -107,12 +104,7 @@ pub extern "C" fn kusarehyon_tag_error_type(state: &[u8]) -> u8
 
 // ---- the reader
 
-#[unsafe(no_mangle)]
-pub extern "C" fn kusarehyon_reader_reset(
-    state: &mut [u8],
-    reply: &mut [u8],
-    bits: &mut usize,
-) -> u8
+pub fn kusarehyon_reader_reset(state: &mut [u8], reply: &mut [u8], bits: &mut usize) -> u8
     ensures { Leaves (reader_reset_called state.old)
         result bits.new state.new reply.old reply.new }
 {
@@ -123,8 +115,7 @@ pub extern "C" fn kusarehyon_reader_reset(
     reader_stepped(state, step, bits)
 }
 
-#[unsafe(no_mangle)]
-pub extern "C" fn kusarehyon_reader_begin(
+pub fn kusarehyon_reader_begin(
     state: &mut [u8],
     method: u8,
     options: u8,
@@ -147,8 +138,7 @@ pub extern "C" fn kusarehyon_reader_begin(
     reader_stepped(state, step, bits)
 }
 
-#[unsafe(no_mangle)]
-pub extern "C" fn kusarehyon_reader_replied(
+pub fn kusarehyon_reader_replied(
     state: &mut [u8],
     payload: &[u8],
     count: usize,
@@ -168,8 +158,7 @@ pub extern "C" fn kusarehyon_reader_replied(
     reader_stepped(state, step, bits)
 }
 
-#[unsafe(no_mangle)]
-pub extern "C" fn kusarehyon_reader_send(
+pub fn kusarehyon_reader_send(
     state: &mut [u8],
     kind: u8,
     data: &[u8],
@@ -190,8 +179,7 @@ pub extern "C" fn kusarehyon_reader_send(
     reader_stepped(state, step, bits)
 }
 
-#[unsafe(no_mangle)]
-pub extern "C" fn kusarehyon_reader_receive(
+pub fn kusarehyon_reader_receive(
     state: &mut [u8],
     kind: u8,
     payload: &[u8],
@@ -214,20 +202,13 @@ pub extern "C" fn kusarehyon_reader_receive(
 
 // ---- the key book
 
-#[unsafe(no_mangle)]
-pub extern "C" fn kusarehyon_book_sound(book: &[u8]) -> bool
+pub fn kusarehyon_book_sound(book: &[u8]) -> bool
     ensures { result ≡ sound_of book.now }
 {
     book::sound(book)
 }
 
-#[unsafe(no_mangle)]
-pub extern "C" fn kusarehyon_book_find(
-    book: &[u8],
-    keyid: u8,
-    reply: &mut [u8],
-    bits: &mut usize,
-) -> u8
+pub fn kusarehyon_book_find(book: &[u8], keyid: u8, reply: &mut [u8], bits: &mut usize) -> u8
     ensures { Leaves (find_called book.now keyid (length reply.old))
         result bits.new [] reply.old reply.new }
 {
@@ -248,8 +229,7 @@ pub extern "C" fn kusarehyon_book_find(
 
 // ---- host frames
 
-#[unsafe(no_mangle)]
-pub extern "C" fn kusarehyon_frame_scan(
+pub fn kusarehyon_frame_scan(
     s: &[u8],
     kind: &mut u8,
     count: &mut usize,
@@ -281,8 +261,7 @@ pub extern "C" fn kusarehyon_frame_scan(
     }
 }
 
-#[unsafe(no_mangle)]
-pub extern "C" fn kusarehyon_frame_write(
+pub fn kusarehyon_frame_write(
     out: &mut [u8],
     at: usize,
     kind: u8,

@@ -1,0 +1,11 @@
+-- `capi::kusarehyon_tag_reset` meets its contract.
+use Rattle.capi.proofs.Calls.{tag_steps, reset-stepped, reset-refused}
+use Rattle.capi.proofs.kusarehyon_tag_reset.Goals as goal
+
+pub returns-then-state-ne-BYTES : goal.returns-then-state-ne-BYTES
+returns-then-state-ne-BYTES c =
+    reset-refused tag_steps _ _ _ _ _ _ c.if-state-ne-BYTES.true c.refused.ensures
+
+pub returns : goal.returns
+returns c =
+    reset-stepped tag_steps _ _ _ _ _ _ c.if-state-ne-BYTES.false _ _ c.reset-step.ensures c.stepped.ensures
