@@ -4,14 +4,25 @@ use mathlib.Core.Path.{◌≡◌, refl, sym, ap, ap₂, ◌∙◌}
 use mathlib.Core.List.{List}
 use Prim.Native.Nat.{ℕ, zero, suc}
 use Rattle.bits.proofs as Bits
+use Rattle.bits.specs.contracts as BitsContracts
 use Rattle.text.proofs as Text
+use Rattle.text.specs.contracts as TextContracts
 use Rattle.text.specs.Text.{Writes}
 use Rattle.console.proofs as Console
+use Rattle.console.specs.contracts as ConsoleContracts
 use Rattle.counts.proofs as Counts
+use Rattle.counts.specs.contracts as CountsContracts
 use Rattle.book.proofs as Book
+use Rattle.book.specs.contracts as BookContracts
 use Rattle.frames.proofs as Frames
+use Rattle.frames.specs.contracts as FramesContracts
 use Rattle.payloads.proofs as Payloads
-use Rattle.determined.specs.Determined.{Determines, DeterminesShown}
+use Rattle.payloads.specs.contracts as PayloadsContracts
+use denote.RattleType.{RattleType}
+use denote.Param.Laws.{Laws}
+use mir.Syntax.{Dict}
+use Rattle.std.specs.declared.io.Print
+use Rattle.determined.specs.Determined.{Determines, DeterminesLeft, DeterminesShown}
 
 -- ---- the argument: what is equal to one thing is equal, part by part; `refl` for parameters that lend nothing
 
@@ -33,31 +44,31 @@ past (suc n) B e = ap (λ b. (tt, b)) (past n B e)
 
 -- ---- bits
 
-pub byte_at : Determines Bits.byte_at.ended Bits.byte_at.Reads.Post
+pub byte_at : Determines BitsContracts.byte_at.ended Bits.byte_at.Reads.Post
 byte_at κs a x y p q = part p q refl
 
-pub bit_at : Determines Bits.bit_at.ended Bits.bit_at.Reads.Post
+pub bit_at : Determines BitsContracts.bit_at.ended Bits.bit_at.Reads.Post
 bit_at κs a x y p q = part p q refl
 
-pub bits_in : Determines Bits.bits_in.ended Bits.bits_in.Reads.Post
+pub bits_in : Determines BitsContracts.bits_in.ended Bits.bits_in.Reads.Post
 bits_in κs a x y p q = part p q refl
 
-pub word_bits_lem : Determines Bits.word_bits.ended Bits.word_bits.Reads.Post
+pub word_bits_lem : Determines BitsContracts.word_bits.ended Bits.word_bits.Reads.Post
 word_bits_lem κs a x y p q = part p q refl
 
-pub field : Determines Bits.field.ended Bits.field.Reads.Post
+pub field : Determines BitsContracts.field.ended Bits.field.Reads.Post
 field κs a x y p q = part p q refl
 
-pub set-bit : Determines Bits.set_bit.ended Bits.set_bit.Reads.Post
+pub set-bit : Determines BitsContracts.set_bit.ended Bits.set_bit.Reads.Post
 set-bit κs a x y p q = part refl refl (part p q refl)
 
-pub bits_put : Determines Bits.put.ended Bits.put.Reads.Post
+pub bits_put : Determines BitsContracts.put.ended Bits.put.Reads.Post
 bits_put κs a x y p q = part refl refl (part p q refl)
 
-pub show : Determines Bits.show.ended Bits.show.Reads.Post
+pub show : Determines BitsContracts.show.ended Bits.show.Reads.Post
 show κs a x y p q = part refl refl (part p q refl)
 
-pub clear : Determines Bits.clear.ended Bits.clear.Reads.Post
+pub clear : Determines BitsContracts.clear.ended Bits.clear.Reads.Post
 clear κs a x y p q = part refl refl (part p q refl)
 
 -- ---- text
@@ -66,102 +77,104 @@ writes : {W : Type 0} {text before : List ℕ} {at : ℕ} {x y : ℕ × (List �
     → Writes text before at x.1.0 x.0 → Writes text before at y.1.0 y.0 → x.1.1 ≡ y.1.1 → x ≡ y
 writes p q r = part p.place q.place (part p.bytes q.bytes r)
 
-pub text_put : Determines Text.put.ended Text.put.Reads.Post
+pub text_put : Determines TextContracts.put.ended Text.put.Reads.Post
 text_put κs a x y p q = writes p q refl
 
-pub decimal : Determines Text.decimal.ended Text.decimal.Reads.Post
+pub decimal : Determines TextContracts.decimal.ended Text.decimal.Reads.Post
 decimal κs a x y p q = writes p q refl
 
-pub hex : Determines Text.hex.ended Text.hex.Reads.Post
+pub hex : Determines TextContracts.hex.ended Text.hex.Reads.Post
 hex κs a x y p q = writes p q refl
 
-pub spaced : Determines Text.spaced.ended Text.spaced.Reads.Post
+pub spaced : Determines TextContracts.spaced.ended Text.spaced.Reads.Post
 spaced κs a x y p q = writes p q refl
 
-pub reply : Determines Text.reply.ended Text.reply.Reads.Post
+pub reply : Determines TextContracts.reply.ended Text.reply.Reads.Post
 reply κs a x y p q = writes p q refl
 
 -- ---- console
 
-pub print : Determines Console.print.ended Console.print.Reads.Post
-print κs a x y p q = part refl refl (part p q refl)
+-- whatever it is that takes the bytes
+module _ (R : RattleType) (laws : Laws R) (print-ghosts : Print.Ghosts R.Denot) (dict : Dict) where
+  pub print : DeterminesLeft (ConsoleContracts.print.ended R print-ghosts dict) (Console.print.Reads.Post R laws print-ghosts dict)
+  print κs a x y p q = past 1 _ (part p q refl)
 
 -- ---- counts
 
-pub refusal_number : Determines Counts.Refusal.number.ended Counts.Refusal.number.Reads.Post
+pub refusal_number : Determines CountsContracts.Refusal.number.ended Counts.Refusal.number.Reads.Post
 refusal_number κs a x y p q = part p q refl
 
-pub count-read : Determines Counts.read.ended Counts.read.Reads.Post
+pub count-read : Determines CountsContracts.read.ended Counts.read.Reads.Post
 count-read κs a x y p q = part p q refl
 
-pub count-check : Determines Counts.check.ended Counts.check.Reads.Post
+pub count-check : Determines CountsContracts.check.ended Counts.check.Reads.Post
 count-check κs a x y p q = part p q refl
 
-pub count-size : Determines Counts.size.ended Counts.size.Reads.Post
+pub count-size : Determines CountsContracts.size.ended Counts.size.Reads.Post
 count-size κs a x y p q = part p q refl
 
-pub count-groups : Determines Counts.groups.ended Counts.groups.Reads.Post
+pub count-groups : Determines CountsContracts.groups.ended Counts.groups.Reads.Post
 count-groups κs a x y p q = part p q refl
 
-pub count-put : Determines Counts.put.ended Counts.put.Reads.Post
+pub count-put : Determines CountsContracts.put.ended Counts.put.Reads.Post
 count-put κs a x y p q = part refl refl (part p q refl)
 
 -- ---- book
 
-pub sound : Determines Book.sound.ended Book.sound.Reads.Post
+pub sound : Determines BookContracts.sound.ended Book.sound.Reads.Post
 sound κs a x y p q = part p q refl
 
-pub find : DeterminesShown Book.find.ended Book.find.Reads.Post (λ κs r. r.now)
+pub find : DeterminesShown BookContracts.find.ended Book.find.Reads.Post (λ κs r. r.now)
 find κs a x y p q = (p ∙ sym q, refl)
 
 -- ---- frames
 
-pub scan : Determines Frames.scan.ended Frames.scan.Reads.Post
+pub scan : Determines FramesContracts.scan.ended Frames.scan.Reads.Post
 scan κs a x y p q = part p q refl
 
-pub payload : DeterminesShown Frames.payload.ended Frames.payload.Reads.Post (λ κs r. r.now)
+pub payload : DeterminesShown FramesContracts.payload.ended Frames.payload.Reads.Post (λ κs r. r.now)
 payload κs a x y p q = (p ∙ sym q, refl)
 
-pub write : Determines Frames.write.ended Frames.write.Reads.Post
+pub write : Determines FramesContracts.write.ended Frames.write.Reads.Post
 write κs a x y p q = part p.0 q.0 (part p.1 q.1 refl)
 
 -- ---- payloads
 
-pub beyond : Determines Payloads.beyond.ended Payloads.beyond.Reads.Post
+pub beyond : Determines PayloadsContracts.beyond.ended Payloads.beyond.Reads.Post
 beyond κs a x y p q = part p q refl
 
-pub first_fields_lem : Determines Payloads.first_fields.ended Payloads.first_fields.Reads.Post
+pub first_fields_lem : Determines PayloadsContracts.first_fields.ended Payloads.first_fields.Reads.Post
 first_fields_lem κs a x y p q = part p q refl
 
-pub features : Determines Payloads.features.ended Payloads.features.Reads.Post
+pub features : Determines PayloadsContracts.features.ended Payloads.features.Reads.Post
 features κs a x y p q = part p q refl
 
-pub status : Determines Payloads.status.ended Payloads.status.Reads.Post
+pub status : Determines PayloadsContracts.status.ended Payloads.status.Reads.Post
 status κs a x y p q = part p q refl
 
-pub payload-write : Determines Payloads.write.ended Payloads.write.Reads.Post
+pub payload-write : Determines PayloadsContracts.write.ended Payloads.write.Reads.Post
 payload-write κs a x y p q = part p.0 q.0 (past 1 _ (part p.1 q.1 refl))
 
-pub data_bits_lem : Determines Payloads.data_bits.ended Payloads.data_bits.Reads.Post
+pub data_bits_lem : Determines PayloadsContracts.data_bits.ended Payloads.data_bits.Reads.Post
 data_bits_lem κs a x y p q = part p q refl
 
-pub zeros : Determines Payloads.zeros.ended Payloads.zeros.Reads.Post
+pub zeros : Determines PayloadsContracts.zeros.ended Payloads.zeros.Reads.Post
 zeros κs a x y p q = part p q refl
 
-pub length-fits : Determines Payloads.length_fits.ended Payloads.length_fits.Reads.Post
+pub length-fits : Determines PayloadsContracts.length_fits.ended Payloads.length_fits.Reads.Post
 length-fits κs a x y p q = part p q refl
 
-pub mac-bits : Determines Payloads.mac_bits.ended Payloads.mac_bits.Reads.Post
+pub mac-bits : Determines PayloadsContracts.mac_bits.ended Payloads.mac_bits.Reads.Post
 mac-bits κs a x y p q = part p q refl
 
-pub secure : Determines Payloads.secure.ended Payloads.secure.Reads.Post
+pub secure : Determines PayloadsContracts.secure.ended Payloads.secure.Reads.Post
 secure κs a x y p q = part p q refl
 
-pub supported : Determines Payloads.supported.ended Payloads.supported.Reads.Post
+pub supported : Determines PayloadsContracts.supported.ended Payloads.supported.Reads.Post
 supported κs a x y p q = part p q refl
 
-pub offered : Determines Payloads.offered.ended Payloads.offered.Reads.Post
+pub offered : Determines PayloadsContracts.offered.ended Payloads.offered.Reads.Post
 offered κs a x y p q = part p q refl
 
-pub start-supported : Determines Payloads.start_supported.ended Payloads.start_supported.Reads.Post
+pub start-supported : Determines PayloadsContracts.start_supported.ended Payloads.start_supported.Reads.Post
 start-supported κs a x y p q = part p q refl

@@ -4,29 +4,31 @@ use mathlib.Core.List.{List}
 use Prim.Native.Nat.{ℕ}
 use lib.ListN.{get_or}
 use Rattle.blocks.proofs as Blocks
+use Rattle.blocks.specs.contracts as BlocksContracts
 use Rattle.capi.proofs as Capi
+use Rattle.capi.specs.contracts as CapiContracts
 use Rattle.capi.specs.Calls.{Called, Leaves}
 use Rattle.determined.specs.Determined.{Determines}
 use Rattle.determined.proofs.Determined.{part, Past, after, past}
 
 -- ---- blocks
 
-pub spells-tag : Determines Blocks.tag.spells.ended Blocks.tag.spells.Reads.Post
+pub spells-tag : Determines BlocksContracts.tag.spells.ended Blocks.tag.spells.Reads.Post
 spells-tag κs a x y p q = part p q refl
 
-pub read-tag : Determines Blocks.tag.read.ended Blocks.tag.read.Reads.Post
+pub read-tag : Determines BlocksContracts.tag.read.ended Blocks.tag.read.Reads.Post
 read-tag κs a x y p q = part p q refl
 
-pub store-tag : Determines Blocks.tag.store.ended Blocks.tag.store.Reads.Post
+pub store-tag : Determines BlocksContracts.tag.store.ended Blocks.tag.store.Reads.Post
 store-tag κs a x y p q = part refl refl (part p q refl)
 
-pub spells-reader : Determines Blocks.reader.spells.ended Blocks.reader.spells.Reads.Post
+pub spells-reader : Determines BlocksContracts.reader.spells.ended Blocks.reader.spells.Reads.Post
 spells-reader κs a x y p q = part p q refl
 
-pub read-reader : Determines Blocks.reader.read.ended Blocks.reader.read.Reads.Post
+pub read-reader : Determines BlocksContracts.reader.read.ended Blocks.reader.read.Reads.Post
 read-reader κs a x y p q = part p q refl
 
-pub store-reader : Determines Blocks.reader.store.ended Blocks.reader.store.Reads.Post
+pub store-reader : Determines BlocksContracts.reader.store.ended Blocks.reader.store.Reads.Post
 store-reader κs a x y p q = part refl refl (part p q refl)
 
 -- ---- capi
@@ -50,45 +52,45 @@ leaves n p q =
 
 -- ---- the tag
 
-pub tag-reset : Determines Capi.kusarehyon_tag_reset.ended Capi.kusarehyon_tag_reset.Reads.Post
+pub tag-reset : Determines CapiContracts.kusarehyon_tag_reset.ended Capi.kusarehyon_tag_reset.Reads.Post
 tag-reset κs a x y p q = leaves 0 p q
 
-pub tag-command : Determines Capi.kusarehyon_tag_command.ended Capi.kusarehyon_tag_command.Reads.Post
+pub tag-command : Determines CapiContracts.kusarehyon_tag_command.ended Capi.kusarehyon_tag_command.Reads.Post
 tag-command κs a x y p q = leaves 6 p q
 
-pub tag-response : Determines Capi.kusarehyon_tag_response.ended Capi.kusarehyon_tag_response.Reads.Post
+pub tag-response : Determines CapiContracts.kusarehyon_tag_response.ended Capi.kusarehyon_tag_response.Reads.Post
 tag-response κs a x y p q = leaves 3 p q
 
-pub tag-close : Determines Capi.kusarehyon_tag_close.ended Capi.kusarehyon_tag_close.Reads.Post
+pub tag-close : Determines CapiContracts.kusarehyon_tag_close.ended Capi.kusarehyon_tag_close.Reads.Post
 tag-close κs a x y p q = part p.0 q.0 (part p.1 q.1 refl)
 
-pub tag-error_type : Determines Capi.kusarehyon_tag_error_type.ended Capi.kusarehyon_tag_error_type.Reads.Post
+pub tag-error_type : Determines CapiContracts.kusarehyon_tag_error_type.ended Capi.kusarehyon_tag_error_type.Reads.Post
 tag-error_type κs a x y p q = part p q refl
 
 -- ---- the reader
 
-pub reader-reset : Determines Capi.kusarehyon_reader_reset.ended Capi.kusarehyon_reader_reset.Reads.Post
+pub reader-reset : Determines CapiContracts.kusarehyon_reader_reset.ended Capi.kusarehyon_reader_reset.Reads.Post
 reader-reset κs a x y p q = leaves 0 p q
 
-pub reader-begin : Determines Capi.kusarehyon_reader_begin.ended Capi.kusarehyon_reader_begin.Reads.Post
+pub reader-begin : Determines CapiContracts.kusarehyon_reader_begin.ended Capi.kusarehyon_reader_begin.Reads.Post
 reader-begin κs a x y p q = leaves 5 p q
 
-pub reader-replied : Determines Capi.kusarehyon_reader_replied.ended Capi.kusarehyon_reader_replied.Reads.Post
+pub reader-replied : Determines CapiContracts.kusarehyon_reader_replied.ended Capi.kusarehyon_reader_replied.Reads.Post
 reader-replied κs a x y p q = leaves 2 p q
 
-pub reader-send : Determines Capi.kusarehyon_reader_send.ended Capi.kusarehyon_reader_send.Reads.Post
+pub reader-send : Determines CapiContracts.kusarehyon_reader_send.ended Capi.kusarehyon_reader_send.Reads.Post
 reader-send κs a x y p q = leaves 3 p q
 
-pub reader-receive : Determines Capi.kusarehyon_reader_receive.ended Capi.kusarehyon_reader_receive.Reads.Post
+pub reader-receive : Determines CapiContracts.kusarehyon_reader_receive.ended Capi.kusarehyon_reader_receive.Reads.Post
 reader-receive κs a x y p q = leaves 3 p q
 
 -- ---- book and frames
 
-pub book-sound : Determines Capi.kusarehyon_book_sound.ended Capi.kusarehyon_book_sound.Reads.Post
+pub book-sound : Determines CapiContracts.kusarehyon_book_sound.ended Capi.kusarehyon_book_sound.Reads.Post
 book-sound κs a x y p q = part p q refl
 
 -- a call with no block: none before, none after
-pub book-find : Determines Capi.kusarehyon_book_find.ended Capi.kusarehyon_book_find.Reads.Post
+pub book-find : Determines CapiContracts.kusarehyon_book_find.ended Capi.kusarehyon_book_find.Reads.Post
 book-find κs a x y p q = replied 2 p q
 
 -- numbers that stand in one list are each determined by it
@@ -96,11 +98,11 @@ at : (i : ℕ) {l m n : List ℕ} → l ≡ n → m ≡ n → get_or l i 0 ≡ g
 at i e f = ap (λ (k : List ℕ). get_or k i 0) (e ∙ sym f)
 
 -- answer, kind, count, start, end
-pub frame_scan : Determines Capi.kusarehyon_frame_scan.ended Capi.kusarehyon_frame_scan.Reads.Post
+pub frame_scan : Determines CapiContracts.kusarehyon_frame_scan.ended Capi.kusarehyon_frame_scan.Reads.Post
 frame_scan κs a x y p q =
     part (at 0 p q) refl
     (past 1 _ (part (at 1 p q) refl (part (at 2 p q) refl (part (at 3 p q) refl (part (at 4 p q) refl refl)))))
 
 -- answer and next place; the buffer
-pub frame_write : Determines Capi.kusarehyon_frame_write.ended Capi.kusarehyon_frame_write.Reads.Post
+pub frame_write : Determines CapiContracts.kusarehyon_frame_write.ended Capi.kusarehyon_frame_write.Reads.Post
 frame_write κs a x y p q = part (at 0 p.0 q.0) refl (part p.1 q.1 (past 4 _ (part (at 1 p.0 q.0) refl refl)))

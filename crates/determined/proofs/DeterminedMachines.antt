@@ -4,162 +4,168 @@ use mathlib.Core.Path.{◌≡◌, refl}
 use mathlib.Core.List.{List}
 use Prim.Native.Nat.{ℕ}
 use Rattle.grain.proofs as Grain
+use Rattle.grain.specs.contracts as GrainContracts
 use Rattle.rules.specs.Results.{Result, Gives}
 use Rattle.states.proofs as States
+use Rattle.states.specs.contracts as StatesContracts
 use Rattle.verdicts.proofs as Verdicts
+use Rattle.verdicts.specs.contracts as VerdictsContracts
 use Rattle.authentication.proofs as Authentication
+use Rattle.authentication.specs.contracts as AuthenticationContracts
 use Rattle.suite.proofs as Suite
+use Rattle.suite.specs.contracts as SuiteContracts
 use Rattle.host.proofs as Host
+use Rattle.host.specs.contracts as HostContracts
 use Rattle.determined.specs.Determined.{Determines}
 use Rattle.determined.proofs.Determined.{part, Past, after, past}
 
 -- ---- grain
 
-pub width-bits : Determines Grain.Width.bits.ended Grain.Width.bits.Reads.Post
+pub width-bits : Determines GrainContracts.Width.bits.ended Grain.Width.bits.Reads.Post
 width-bits κs a x y p q = part p q refl
 
-pub load : Determines Grain.Engine.load.ended Grain.Engine.load.Reads.Post
+pub load : Determines GrainContracts.Engine.load.ended Grain.Engine.load.Reads.Post
 load κs a x y p q = part p q refl
 
-pub start : Determines Grain.Engine.start.ended Grain.Engine.start.Reads.Post
+pub start : Determines GrainContracts.Engine.start.ended Grain.Engine.start.Reads.Post
 start κs a x y p q = part p q refl
 
-pub outputs : Determines Grain.Engine.outputs.ended Grain.Engine.outputs.Reads.Post
+pub outputs : Determines GrainContracts.Engine.outputs.ended Grain.Engine.outputs.Reads.Post
 outputs κs a x y p q = part p q refl
 
-pub pair : Determines Grain.Engine.pair.ended Grain.Engine.pair.Reads.Post
+pub pair : Determines GrainContracts.Engine.pair.ended Grain.Engine.pair.Reads.Post
 pair κs a x y p q = part p q refl
 
-pub keystream : Determines Grain.Engine.keystream.ended Grain.Engine.keystream.Reads.Post
+pub keystream : Determines GrainContracts.Engine.keystream.ended Grain.Engine.keystream.Reads.Post
 keystream κs a x y p q = part p q refl
 
-pub fill : Determines Grain.Engine.fill.ended Grain.Engine.fill.Reads.Post
+pub fill : Determines GrainContracts.Engine.fill.ended Grain.Engine.fill.Reads.Post
 fill κs a x y p q = part p q refl
 
-pub authenticate : Determines Grain.Session.authenticate.ended Grain.Session.authenticate.Reads.Post
+pub authenticate : Determines GrainContracts.Session.authenticate.ended Grain.Session.authenticate.Reads.Post
 authenticate κs a x y p q = part p q refl
 
-pub encrypt : Determines Grain.Session.encrypt.ended Grain.Session.encrypt.Reads.Post
+pub encrypt : Determines GrainContracts.Session.encrypt.ended Grain.Session.encrypt.Reads.Post
 encrypt κs a x y p q = part p.0 q.0 (past 2 _ (part p.1 q.1 refl))
 
-pub decrypt : Determines Grain.Session.decrypt.ended Grain.Session.decrypt.Reads.Post
+pub decrypt : Determines GrainContracts.Session.decrypt.ended Grain.Session.decrypt.Reads.Post
 decrypt κs a x y p q = part p.0 q.0 (past 2 _ (part p.1 q.1 refl))
 
 -- ---- states
 
-pub chosen_width_lem : Determines States.session.chosen_width.ended States.session.chosen_width.Reads.Post
+pub chosen_width_lem : Determines StatesContracts.session.chosen_width.ended States.session.chosen_width.Reads.Post
 chosen_width_lem κs a x y p q = part p q refl
 
-pub stored-width : Determines States.session.stored_width.ended States.session.stored_width.Reads.Post
+pub stored-width : Determines StatesContracts.session.stored_width.ended States.session.stored_width.Reads.Post
 stored-width κs a x y p q = part p q refl
 
-pub key_in : Determines States.session.key_in.ended States.session.key_in.Reads.Post
+pub key_in : Determines StatesContracts.session.key_in.ended States.session.key_in.Reads.Post
 key_in κs a x y p q = part p q refl
 
-pub session-begin : Determines States.session.begin.ended States.session.begin.Reads.Post
+pub session-begin : Determines StatesContracts.session.begin.ended States.session.begin.Reads.Post
 session-begin κs a x y p q = part p q refl
 
-pub with_engine_lem : Determines States.session.with_engine.ended States.session.with_engine.Reads.Post
+pub with_engine_lem : Determines StatesContracts.session.with_engine.ended States.session.with_engine.Reads.Post
 with_engine_lem κs a x y p q = part p q refl
 
-pub tag_of : Determines States.tag.TagState.of.ended States.tag.TagState.of.Reads.Post
+pub tag_of : Determines StatesContracts.tag.TagState.of.ended States.tag.TagState.of.Reads.Post
 tag_of κs a x y p q = part p q refl
 
-pub tag-face : Determines States.tag.TagState.face.ended States.tag.TagState.face.Reads.Post
+pub tag-face : Determines StatesContracts.tag.TagState.face.ended States.tag.TagState.face.Reads.Post
 tag-face κs a x y p q = part p q refl
 
-pub tag-session : Determines States.tag.TagState.session.ended States.tag.TagState.session.Reads.Post
+pub tag-session : Determines StatesContracts.tag.TagState.session.ended States.tag.TagState.session.Reads.Post
 tag-session κs a x y p q = part p q refl
 
-pub tag-sound : Determines States.tag.TagState.sound.ended States.tag.TagState.sound.Reads.Post
+pub tag-sound : Determines StatesContracts.tag.TagState.sound.ended States.tag.TagState.sound.Reads.Post
 tag-sound κs a x y p q = part p q refl
 
-pub tag-state-reset : Determines States.tag.TagState.reset.ended States.tag.TagState.reset.Reads.Post
+pub tag-state-reset : Determines StatesContracts.tag.TagState.reset.ended States.tag.TagState.reset.Reads.Post
 tag-state-reset κs a x y p q = part p q refl
 
-pub tag-closed : Determines States.tag.TagState.closed.ended States.tag.TagState.closed.Reads.Post
+pub tag-closed : Determines StatesContracts.tag.TagState.closed.ended States.tag.TagState.closed.Reads.Post
 tag-closed κs a x y p q = part p q refl
 
-pub tag-failed : Determines States.tag.TagState.failed.ended States.tag.TagState.failed.Reads.Post
+pub tag-failed : Determines StatesContracts.tag.TagState.failed.ended States.tag.TagState.failed.Reads.Post
 tag-failed κs a x y p q = part p q refl
 
-pub tag-begun : Determines States.tag.TagState.begun.ended States.tag.TagState.begun.Reads.Post
+pub tag-begun : Determines StatesContracts.tag.TagState.begun.ended States.tag.TagState.begun.Reads.Post
 tag-begun κs a x y p q = part p q refl
 
-pub tag-opened : Determines States.tag.TagState.opened.ended States.tag.TagState.opened.Reads.Post
+pub tag-opened : Determines StatesContracts.tag.TagState.opened.ended States.tag.TagState.opened.Reads.Post
 tag-opened κs a x y p q = part p q refl
 
-pub tag_with_session : Determines States.tag.TagState.with_session.ended States.tag.TagState.with_session.Reads.Post
+pub tag_with_session : Determines StatesContracts.tag.TagState.with_session.ended States.tag.TagState.with_session.Reads.Post
 tag_with_session κs a x y p q = part p q refl
 
-pub reader-of : Determines States.reader.ReaderState.of.ended States.reader.ReaderState.of.Reads.Post
+pub reader-of : Determines StatesContracts.reader.ReaderState.of.ended States.reader.ReaderState.of.Reads.Post
 reader-of κs a x y p q = part p q refl
 
-pub reader-face : Determines States.reader.ReaderState.face.ended States.reader.ReaderState.face.Reads.Post
+pub reader-face : Determines StatesContracts.reader.ReaderState.face.ended States.reader.ReaderState.face.Reads.Post
 reader-face κs a x y p q = part p q refl
 
-pub reader-session : Determines States.reader.ReaderState.session.ended States.reader.ReaderState.session.Reads.Post
+pub reader-session : Determines StatesContracts.reader.ReaderState.session.ended States.reader.ReaderState.session.Reads.Post
 reader-session κs a x y p q = part p q refl
 
-pub reader-sound : Determines States.reader.ReaderState.sound.ended States.reader.ReaderState.sound.Reads.Post
+pub reader-sound : Determines StatesContracts.reader.ReaderState.sound.ended States.reader.ReaderState.sound.Reads.Post
 reader-sound κs a x y p q = part p q refl
 
-pub reader-state-reset : Determines States.reader.ReaderState.reset.ended States.reader.ReaderState.reset.Reads.Post
+pub reader-state-reset : Determines StatesContracts.reader.ReaderState.reset.ended States.reader.ReaderState.reset.Reads.Post
 reader-state-reset κs a x y p q = part p q refl
 
-pub reader-closed : Determines States.reader.ReaderState.closed.ended States.reader.ReaderState.closed.Reads.Post
+pub reader-closed : Determines StatesContracts.reader.ReaderState.closed.ended States.reader.ReaderState.closed.Reads.Post
 reader-closed κs a x y p q = part p q refl
 
-pub reader-begun : Determines States.reader.ReaderState.begun.ended States.reader.ReaderState.begun.Reads.Post
+pub reader-begun : Determines StatesContracts.reader.ReaderState.begun.ended States.reader.ReaderState.begun.Reads.Post
 reader-begun κs a x y p q = part p q refl
 
-pub reader-filled : Determines States.reader.ReaderState.filled.ended States.reader.ReaderState.filled.Reads.Post
+pub reader-filled : Determines StatesContracts.reader.ReaderState.filled.ended States.reader.ReaderState.filled.Reads.Post
 reader-filled κs a x y p q = part p q refl
 
-pub reader-opened : Determines States.reader.ReaderState.opened.ended States.reader.ReaderState.opened.Reads.Post
+pub reader-opened : Determines StatesContracts.reader.ReaderState.opened.ended States.reader.ReaderState.opened.Reads.Post
 reader-opened κs a x y p q = part p q refl
 
-pub reader_with_session : Determines States.reader.ReaderState.with_session.ended States.reader.ReaderState.with_session.Reads.Post
+pub reader_with_session : Determines StatesContracts.reader.ReaderState.with_session.ended States.reader.ReaderState.with_session.Reads.Post
 reader_with_session κs a x y p q = part p q refl
 
-pub session-send : Determines States.session.send.ended States.session.send.Reads.Post
+pub session-send : Determines StatesContracts.session.send.ended States.session.send.Reads.Post
 session-send κs a x y p q = part p.0 q.0 (past 3 _ (part p.1 q.1 refl))
 
-pub session-receive : Determines States.session.receive.ended States.session.receive.Reads.Post
+pub session-receive : Determines StatesContracts.session.receive.ended States.session.receive.Reads.Post
 session-receive κs a x y p q = part p.0 q.0 (past 3 _ (part p.1 q.1 refl))
 
 -- ---- verdicts
 
-pub tag-command-verdict : Determines Verdicts.tag.command.ended Verdicts.tag.command.Reads.Post
+pub tag-command-verdict : Determines VerdictsContracts.tag.command.ended Verdicts.tag.command.Reads.Post
 tag-command-verdict κs a x y p q = part p q refl
 
-pub tag-response-verdict : Determines Verdicts.tag.response.ended Verdicts.tag.response.Reads.Post
+pub tag-response-verdict : Determines VerdictsContracts.tag.response.ended Verdicts.tag.response.Reads.Post
 tag-response-verdict κs a x y p q = part p q refl
 
-pub reader-begin-verdict : Determines Verdicts.reader.begin.ended Verdicts.reader.begin.Reads.Post
+pub reader-begin-verdict : Determines VerdictsContracts.reader.begin.ended Verdicts.reader.begin.Reads.Post
 reader-begin-verdict κs a x y p q = part p q refl
 
-pub reader-replied-verdict : Determines Verdicts.reader.replied.ended Verdicts.reader.replied.Reads.Post
+pub reader-replied-verdict : Determines VerdictsContracts.reader.replied.ended Verdicts.reader.replied.Reads.Post
 reader-replied-verdict κs a x y p q = part p q refl
 
-pub reader-send-verdict : Determines Verdicts.reader.send.ended Verdicts.reader.send.Reads.Post
+pub reader-send-verdict : Determines VerdictsContracts.reader.send.ended Verdicts.reader.send.Reads.Post
 reader-send-verdict κs a x y p q = part p q refl
 
-pub reader-receive-verdict : Determines Verdicts.reader.receive.ended Verdicts.reader.receive.Reads.Post
+pub reader-receive-verdict : Determines VerdictsContracts.reader.receive.ended Verdicts.reader.receive.Reads.Post
 reader-receive-verdict κs a x y p q = part p q refl
 
 -- ---- authentication
 
-pub tag-start : Determines Authentication.tag.start.ended Authentication.tag.start.Reads.Post
+pub tag-start : Determines AuthenticationContracts.tag.start.ended Authentication.tag.start.Reads.Post
 tag-start κs a x y p q = part p q refl
 
-pub tag-prove : Determines Authentication.tag.prove.ended Authentication.tag.prove.Reads.Post
+pub tag-prove : Determines AuthenticationContracts.tag.prove.ended Authentication.tag.prove.Reads.Post
 tag-prove κs a x y p q = part p q refl
 
-pub reader-begin : Determines Authentication.reader.begin.ended Authentication.reader.begin.Reads.Post
+pub reader-begin : Determines AuthenticationContracts.reader.begin.ended Authentication.reader.begin.Reads.Post
 reader-begin κs a x y p q = part p q refl
 
-pub reader-answer : Determines Authentication.reader.answer.ended Authentication.reader.answer.Reads.Post
+pub reader-answer : Determines AuthenticationContracts.reader.answer.ended Authentication.reader.answer.Reads.Post
 reader-answer κs a x y p q = part p q refl
 
 -- ---- suite
@@ -169,37 +175,37 @@ gives : (n : ℕ) {S T : Type 0} {step_of : Result S → T} {r : Result S} {b : 
     → Gives step_of r x.0 b (after n _ x.1).0 → Gives step_of r y.0 b (after n _ y.1).0 → x ≡ y
 gives n p q = part p.step q.step (past n _ (part p.reply q.reply refl))
 
-pub tag-reset : Determines Suite.Tag.reset.ended Suite.Tag.reset.Reads.Post
+pub tag-reset : Determines SuiteContracts.Tag.reset.ended Suite.Tag.reset.Reads.Post
 tag-reset κs a x y p q = gives 0 p q
 
-pub command : Determines Suite.Tag.command.ended Suite.Tag.command.Reads.Post
+pub command : Determines SuiteContracts.Tag.command.ended Suite.Tag.command.Reads.Post
 command κs a x y p q = gives 7 p q
 
-pub response : Determines Suite.Tag.response.ended Suite.Tag.response.Reads.Post
+pub response : Determines SuiteContracts.Tag.response.ended Suite.Tag.response.Reads.Post
 response κs a x y p q = gives 4 p q
 
-pub close : Determines Suite.Tag.close.ended Suite.Tag.close.Reads.Post
+pub close : Determines SuiteContracts.Tag.close.ended Suite.Tag.close.Reads.Post
 close κs a x y p q = part p q refl
 
-pub error_type_lem : Determines Suite.Tag.error_type.ended Suite.Tag.error_type.Reads.Post
+pub error_type_lem : Determines SuiteContracts.Tag.error_type.ended Suite.Tag.error_type.Reads.Post
 error_type_lem κs a x y p q = part p q refl
 
-pub reader-reset : Determines Suite.Reader.reset.ended Suite.Reader.reset.Reads.Post
+pub reader-reset : Determines SuiteContracts.Reader.reset.ended Suite.Reader.reset.Reads.Post
 reader-reset κs a x y p q = gives 0 p q
 
-pub begin : Determines Suite.Reader.begin.ended Suite.Reader.begin.Reads.Post
+pub begin : Determines SuiteContracts.Reader.begin.ended Suite.Reader.begin.Reads.Post
 begin κs a x y p q = gives 6 p q
 
-pub replied : Determines Suite.Reader.replied.ended Suite.Reader.replied.Reads.Post
+pub replied : Determines SuiteContracts.Reader.replied.ended Suite.Reader.replied.Reads.Post
 replied κs a x y p q = gives 3 p q
 
-pub send : Determines Suite.Reader.send.ended Suite.Reader.send.Reads.Post
+pub send : Determines SuiteContracts.Reader.send.ended Suite.Reader.send.Reads.Post
 send κs a x y p q = gives 4 p q
 
-pub receive : Determines Suite.Reader.receive.ended Suite.Reader.receive.Reads.Post
+pub receive : Determines SuiteContracts.Reader.receive.ended Suite.Reader.receive.Reads.Post
 receive κs a x y p q = gives 4 p q
 
 -- ---- host
 
-pub run : Determines Host.run.ended Host.run.Reads.Post
+pub run : Determines HostContracts.run.ended Host.run.Reads.Post
 run κs a x y p q = gives 7 p q

@@ -1,79 +1,81 @@
 -- Every public function on public parts, by its own name: two outcomes that meet its contract are equal. Assumes nothing.
 use mathlib.Core.Path.{refl, sym, ◌∙◌}
 use Rattle.faces.proofs as Faces
+use Rattle.faces.specs.contracts as FacesContracts
 use Rattle.rules.proofs as Rules
+use Rattle.rules.specs.contracts as RulesContracts
 use Rattle.determined.specs.Determined.{Determines, DeterminesShown}
 use Rattle.determined.proofs.Determined.{part}
 
 -- ---- faces
 
-pub name-number : Determines Faces.Name.number.ended Faces.Name.number.Reads.Post
+pub name-number : Determines FacesContracts.Name.number.ended Faces.Name.number.Reads.Post
 name-number κs a x y p q = part p q refl
 
-pub row_of : Determines Faces.tag.row_of.ended Faces.tag.row_of.Reads.Post
+pub row_of : Determines FacesContracts.tag.row_of.ended Faces.tag.row_of.Reads.Post
 row_of κs a x y p q = part p q refl
 
-pub face-fits : Determines Faces.tag.face_fits.ended Faces.tag.face_fits.Reads.Post
+pub face-fits : Determines FacesContracts.tag.face_fits.ended Faces.tag.face_fits.Reads.Post
 face-fits κs a x y p q = part p q refl
 
-pub face-bare : Determines Faces.tag.bare.ended Faces.tag.bare.Reads.Post
+pub face-bare : Determines FacesContracts.tag.bare.ended Faces.tag.bare.Reads.Post
 face-bare κs a x y p q = part p q refl
 
-pub face-mutually : Determines Faces.tag.mutually.ended Faces.tag.mutually.Reads.Post
+pub face-mutually : Determines FacesContracts.tag.mutually.ended Faces.tag.mutually.Reads.Post
 face-mutually κs a x y p q = part p q refl
 
-pub face-error_type : Determines Faces.tag.error_type.ended Faces.tag.error_type.Reads.Post
+pub face-error_type : Determines FacesContracts.tag.error_type.ended Faces.tag.error_type.Reads.Post
 face-error_type κs a x y p q = part p q refl
 
-pub stage-number : Determines Faces.Stage.number.ended Faces.Stage.number.Reads.Post
+pub stage-number : Determines FacesContracts.Stage.number.ended Faces.Stage.number.Reads.Post
 stage-number κs a x y p q = part p q refl
 
-pub stage-row : Determines Faces.reader.stage_row.ended Faces.reader.stage_row.Reads.Post
+pub stage-row : Determines FacesContracts.reader.stage_row.ended Faces.reader.stage_row.Reads.Post
 stage-row κs a x y p q = part p q refl
 
-pub reader-fits : Determines Faces.reader.face_fits.ended Faces.reader.face_fits.Reads.Post
+pub reader-fits : Determines FacesContracts.reader.face_fits.ended Faces.reader.face_fits.Reads.Post
 reader-fits κs a x y p q = part p q refl
 
-pub reader-bare : Determines Faces.reader.bare.ended Faces.reader.bare.Reads.Post
+pub reader-bare : Determines FacesContracts.reader.bare.ended Faces.reader.bare.Reads.Post
 reader-bare κs a x y p q = part p q refl
 
 -- ---- rules
 
-pub if_sound_lem : Determines Rules.if_sound.ended Rules.if_sound.Reads.Post
+pub if_sound_lem : Determines RulesContracts.if_sound.ended Rules.if_sound.Reads.Post
 if_sound_lem κs a x y p q = part p q refl
 
-pub message-shown : Determines Rules.message_shown.ended Rules.message_shown.Reads.Post
+pub message-shown : Determines RulesContracts.message_shown.ended Rules.message_shown.Reads.Post
 message-shown κs a x y p q = part p q refl
 
-pub answer-number : Determines Rules.Answer.number.ended Rules.Answer.number.Reads.Post
+pub answer-number : Determines RulesContracts.Answer.number.ended Rules.Answer.number.Reads.Post
 answer-number κs a x y p q = part p q refl
 
-pub key_under_lem : DeterminesShown Rules.tag.key_under.ended Rules.tag.key_under.Reads.Post (λ κs r. r.now)
+pub key_under_lem : DeterminesShown RulesContracts.tag.key_under.ended Rules.tag.key_under.Reads.Post (λ κs r. r.now)
 key_under_lem κs a x y p q = (p ∙ sym q, refl)
 
-pub command-verdict : Determines Rules.tag.command_verdict.ended Rules.tag.command_verdict.Reads.Post
+pub command-verdict : Determines RulesContracts.tag.command_verdict.ended Rules.tag.command_verdict.Reads.Post
 command-verdict κs a x y p q = part p q refl
 
-pub command-work : Determines Rules.tag.command_work.ended Rules.tag.command_work.Reads.Post
+pub command-work : Determines RulesContracts.tag.command_work.ended Rules.tag.command_work.Reads.Post
 command-work κs a x y p q = part p q refl
 
-pub response-verdict : Determines Rules.tag.response_verdict.ended Rules.tag.response_verdict.Reads.Post
+pub response-verdict : Determines RulesContracts.tag.response_verdict.ended Rules.tag.response_verdict.Reads.Post
 response-verdict κs a x y p q = part p q refl
 
-pub reply-shown : Determines Rules.reader.reply_shown.ended Rules.reader.reply_shown.Reads.Post
+pub reply-shown : Determines RulesContracts.reader.reply_shown.ended Rules.reader.reply_shown.Reads.Post
 reply-shown κs a x y p q = part p q refl
 
-pub begin-verdict : Determines Rules.reader.begin_verdict.ended Rules.reader.begin_verdict.Reads.Post
+pub begin-verdict : Determines RulesContracts.reader.begin_verdict.ended Rules.reader.begin_verdict.Reads.Post
 begin-verdict κs a x y p q = part p q refl
 
-pub reply-verdict : Determines Rules.reader.reply_verdict.ended Rules.reader.reply_verdict.Reads.Post
+pub reply-verdict : Determines RulesContracts.reader.reply_verdict.ended Rules.reader.reply_verdict.Reads.Post
 reply-verdict κs a x y p q = part p q refl
 
-pub reply-work : Determines Rules.reader.reply_work.ended Rules.reader.reply_work.Reads.Post
+pub reply-work : Determines RulesContracts.reader.reply_work.ended Rules.reader.reply_work.Reads.Post
 reply-work κs a x y p q = part p q refl
 
-pub send-verdict : Determines Rules.reader.send_verdict.ended Rules.reader.send_verdict.Reads.Post
+pub send-verdict : Determines RulesContracts.reader.send_verdict.ended Rules.reader.send_verdict.Reads.Post
 send-verdict κs a x y p q = part p q refl
 
-pub receive-verdict : Determines Rules.reader.receive_verdict.ended Rules.reader.receive_verdict.Reads.Post
+pub receive-verdict : Determines RulesContracts.reader.receive_verdict.ended Rules.reader.receive_verdict.Reads.Post
 receive-verdict κs a x y p q = part p q refl

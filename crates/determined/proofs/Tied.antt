@@ -5,6 +5,7 @@ use mathlib.Core.List.{List}
 use Prim.Native.Nat.{ℕ}
 use contract.Lifetimes.{Lfts}
 use denote.Ref.{Bor}
+use denote.MutBor.{MutBor}
 use Rattle.rules.specs.Answers.{number_of}
 use Rattle.states.specs.declared.tag.TagState.{TagState}
 use Rattle.states.specs.declared.reader.ReaderState.{ReaderState}
@@ -22,11 +23,11 @@ use Rattle.promises.specs.Ours.{our_tag, our_reader}
 abbrev tag_left : Step → List ℕ → Given TagState
 tag_left s buffer = record { next = s.next.state; answer = number_of s.answer; bits = s.bits; buffer = buffer }
 
-pub tag-reset_tied : (κs : Lfts 1) (reply after : Bor (List ℕ)) (s : Step)
+pub tag-reset_tied : (κs : Lfts 1) (reply after : MutBor (List ℕ)) (s : Step)
     → Suite.Tag.reset.Reads.Post κs (reply, tt) s (after, tt) → tag_left s after.now ≡ our_tag.reset reply.now
 tag-reset_tied κs reply after s p = ap₂ tag_left p.step p.reply
 
-pub command_tied : (κs : Lfts 3) (t : Tag) (kind count features number : ℕ) (payload book reply after : Bor (List ℕ)) (s : Step)
+pub command_tied : (κs : Lfts 3) (t : Tag) (kind count features number : ℕ) (payload book : Bor (List ℕ)) (reply after : MutBor (List ℕ)) (s : Step)
     → Suite.Tag.command.Reads.Post κs
     (t, (kind, (payload, (count, (features, (book, (number, (reply, tt))))))))
     s
@@ -36,7 +37,7 @@ pub command_tied : (κs : Lfts 3) (t : Tag) (kind count features number : ℕ) (
     reply.now
 command_tied κs t kind count features number payload book reply after s p = ap₂ tag_left p.step p.reply
 
-pub response_tied : (κs : Lfts 2) (t : Tag) (kind count : ℕ) (payload reply after : Bor (List ℕ)) (s : Step)
+pub response_tied : (κs : Lfts 2) (t : Tag) (kind count : ℕ) (payload : Bor (List ℕ)) (reply after : MutBor (List ℕ)) (s : Step)
     → Suite.Tag.response.Reads.Post κs (t, (kind, (payload, (count, (reply, tt))))) s (t, (kind, (payload, (count, (after, tt)))))
     → tag_left s after.now ≡ our_tag.response t.state (record { kind = kind; payload = payload.now; count = count }) reply.now
 response_tied κs t kind count payload reply after s p = ap₂ tag_left p.step p.reply
@@ -52,11 +53,11 @@ error_type_tied t r p = p
 abbrev reader_left : ReaderStep → List ℕ → Given ReaderState
 reader_left s buffer = record { next = s.next.state; answer = number_of s.answer; bits = s.bits; buffer = buffer }
 
-pub reader-reset_tied : (κs : Lfts 1) (reply after : Bor (List ℕ)) (s : ReaderStep)
+pub reader-reset_tied : (κs : Lfts 1) (reply after : MutBor (List ℕ)) (s : ReaderStep)
     → Suite.Reader.reset.Reads.Post κs (reply, tt) s (after, tt) → reader_left s after.now ≡ our_reader.reset reply.now
 reader-reset_tied κs reply after s p = ap₂ reader_left p.step p.reply
 
-pub begin_tied : (κs : Lfts 2) (r : Reader) (method options keyid number : ℕ) (book reply after : Bor (List ℕ)) (s : ReaderStep)
+pub begin_tied : (κs : Lfts 2) (r : Reader) (method options keyid number : ℕ) (book : Bor (List ℕ)) (reply after : MutBor (List ℕ)) (s : ReaderStep)
     → Suite.Reader.begin.Reads.Post κs
     (r, (method, (options, (keyid, (number, (book, (reply, tt)))))))
     s
@@ -66,17 +67,17 @@ pub begin_tied : (κs : Lfts 2) (r : Reader) (method options keyid number : ℕ)
     reply.now
 begin_tied κs r method options keyid number book reply after s p = ap₂ reader_left p.step p.reply
 
-pub replied_tied : (κs : Lfts 2) (r : Reader) (payload : Bor (List ℕ)) (count : ℕ) (reply after : Bor (List ℕ)) (s : ReaderStep)
+pub replied_tied : (κs : Lfts 2) (r : Reader) (payload : Bor (List ℕ)) (count : ℕ) (reply after : MutBor (List ℕ)) (s : ReaderStep)
     → Suite.Reader.replied.Reads.Post κs (r, (payload, (count, (reply, tt)))) s (r, (payload, (count, (after, tt))))
     → reader_left s after.now ≡ our_reader.replied r.state payload.now count reply.now
 replied_tied κs r payload count reply after s p = ap₂ reader_left p.step p.reply
 
-pub send_tied : (κs : Lfts 2) (r : Reader) (kind count : ℕ) (payload reply after : Bor (List ℕ)) (s : ReaderStep)
+pub send_tied : (κs : Lfts 2) (r : Reader) (kind count : ℕ) (payload : Bor (List ℕ)) (reply after : MutBor (List ℕ)) (s : ReaderStep)
     → Suite.Reader.send.Reads.Post κs (r, (kind, (payload, (count, (reply, tt))))) s (r, (kind, (payload, (count, (after, tt)))))
     → reader_left s after.now ≡ our_reader.send r.state (record { kind = kind; payload = payload.now; count = count }) reply.now
 send_tied κs r kind count payload reply after s p = ap₂ reader_left p.step p.reply
 
-pub receive_tied : (κs : Lfts 2) (r : Reader) (kind count : ℕ) (payload reply after : Bor (List ℕ)) (s : ReaderStep)
+pub receive_tied : (κs : Lfts 2) (r : Reader) (kind count : ℕ) (payload : Bor (List ℕ)) (reply after : MutBor (List ℕ)) (s : ReaderStep)
     → Suite.Reader.receive.Reads.Post κs (r, (kind, (payload, (count, (reply, tt))))) s (r, (kind, (payload, (count, (after, tt)))))
     → reader_left s after.now ≡ our_reader.receive r.state (record { kind = kind; payload = payload.now; count = count }) reply.now
 receive_tied κs r kind count payload reply after s p = ap₂ reader_left p.step p.reply
