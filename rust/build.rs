@@ -20,16 +20,9 @@ fn folder(root: &Path) -> PathBuf {
     if let Some(given) = env::var_os("KUSAREHYON_ARCHIVE") {
         return root.join(given);
     }
-    let for_x86_64 = root.join("target/staticlib");
-    if env::var("CARGO_CFG_TARGET_ARCH").is_ok_and(|arch| arch == "x86_64") {
-        return for_x86_64;
-    }
-    let native = root.join("target/native");
-    watch(&native);
-    if native.join(ARCHIVE).is_file() {
-        native
-    } else {
-        for_x86_64
+    match &*env::var("CARGO_CFG_TARGET_ARCH").expect("cargo sets it") {
+        "x86_64" => root.join("target/staticlib"),
+        other => root.join("target").join(other),
     }
 }
 

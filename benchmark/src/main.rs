@@ -23,7 +23,7 @@ fn archive_kind() -> &'static str {
     if cfg!(target_arch = "x86_64") {
         "x86-64"
     } else {
-        "native, the same module compiled for this processor"
+        "native, the same crate built for this processor"
     }
 }
 
