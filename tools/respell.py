@@ -17,8 +17,12 @@ NAME = re.compile(r"[^\s(){}.;,@\"«»\[\]`:?!]+")
 COMMENT = {".antt": re.compile(r"(?<![^\s(){};,])--[^\n]*"), ".rt": re.compile(r"//[^\n]*"), ".edit": re.compile(r"(?m)^#[^\n]*")}
 STRING = re.compile(r'b?"(?:\\.|[^"\\])*"')
 SPAN = re.compile(r"`[^`\n]+`")
-# A lemma beside the definition that it speaks of, in the one file where both would have the same name.
+# A lemma that the kit's script gave the name of the definition that it speaks of.
 BESIDE = {
+    "crates/determined/proofs/Determined.antt": {"bit_at": "bit_at_lem", "byte_at": "byte_at_lem"},
+    "crates/determined/proofs/DeterminedMachines.antt": {"key_in": "key_in_lem", "tag_of": "tag_of_lem"},
+    "crates/determined/proofs/DeterminedRules.antt": {"row_of": "row_of_lem"},
+    "crates/promises/proofs/AuditedNumbers.antt": {"first_of": "first_of_lem"},
     "crates/promises/proofs/Refuted.antt": {"one_answer": "one_answer_lem", "writes_nothing": "writes_nothing_lem"},
     "crates/promises/proofs/Talking.antt": {"open_by": "open_by_lem"},
 }
@@ -35,12 +39,15 @@ class Speller:
         # In running text a name with a dash may be two words.
         self.words = {a: b for a, b in table.items() if "-" not in a}
 
-    def code(self, text, table, keep_after_dot):
+    def code(self, text, beside, keep_after_dot):
         def turned(m):
             w = m.group()
-            if keep_after_dot and "-" in w and m.start() and text[m.start() - 1] == ".":
+            behind_dot = m.start() and text[m.start() - 1] == "."
+            if w in beside and not behind_dot:
+                return beside[w]
+            if keep_after_dot and "-" in w and behind_dot:
                 return w
-            return table.get(w, w)
+            return self.table.get(w, w)
 
         return NAME.sub(turned, text)
 
@@ -51,13 +58,12 @@ class Speller:
     def source(self, text, kind, beside, keep_after_dot):
         quiet = COMMENT[kind]
         both = re.compile(f"{quiet.pattern}|{STRING.pattern}", re.M) if kind == ".rt" else quiet
-        table = {**self.table, **beside}
         out, at = [], 0
         for m in both.finditer(text):
-            out.append(self.code(text[at : m.start()], table, keep_after_dot))
+            out.append(self.code(text[at : m.start()], beside, keep_after_dot))
             out.append(m.group() if m.group()[0] in 'b"' else self.prose(m.group()))
             at = m.end()
-        out.append(self.code(text[at:], table, keep_after_dot))
+        out.append(self.code(text[at:], beside, keep_after_dot))
         return "".join(out)
 
 

@@ -44,11 +44,11 @@ past (suc n) B e = ap (λ b. (tt, b)) (past n B e)
 
 -- ---- bits
 
-pub byte_at : Determines BitsContracts.byte_at.ended Bits.byte_at.Reads.Post
-byte_at κs a x y p q = part p q refl
+pub byte_at_lem : Determines BitsContracts.byte_at.ended Bits.byte_at.Reads.Post
+byte_at_lem κs a x y p q = part p q refl
 
-pub bit_at : Determines BitsContracts.bit_at.ended Bits.bit_at.Reads.Post
-bit_at κs a x y p q = part p q refl
+pub bit_at_lem : Determines BitsContracts.bit_at.ended Bits.bit_at.Reads.Post
+bit_at_lem κs a x y p q = part p q refl
 
 pub bits_in : Determines BitsContracts.bits_in.ended Bits.bits_in.Reads.Post
 bits_in κs a x y p q = part p q refl

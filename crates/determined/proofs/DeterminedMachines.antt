@@ -59,8 +59,8 @@ chosen_width_lem κs a x y p q = part p q refl
 pub stored-width : Determines StatesContracts.session.stored_width.ended States.session.stored_width.Reads.Post
 stored-width κs a x y p q = part p q refl
 
-pub key_in : Determines StatesContracts.session.key_in.ended States.session.key_in.Reads.Post
-key_in κs a x y p q = part p q refl
+pub key_in_lem : Determines StatesContracts.session.key_in.ended States.session.key_in.Reads.Post
+key_in_lem κs a x y p q = part p q refl
 
 pub session-begin : Determines StatesContracts.session.begin.ended States.session.begin.Reads.Post
 session-begin κs a x y p q = part p q refl
@@ -68,8 +68,8 @@ session-begin κs a x y p q = part p q refl
 pub with_engine_lem : Determines StatesContracts.session.with_engine.ended States.session.with_engine.Reads.Post
 with_engine_lem κs a x y p q = part p q refl
 
-pub tag_of : Determines StatesContracts.tag.TagState.of.ended States.tag.TagState.of.Reads.Post
-tag_of κs a x y p q = part p q refl
+pub tag_of_lem : Determines StatesContracts.tag.TagState.of.ended States.tag.TagState.of.Reads.Post
+tag_of_lem κs a x y p q = part p q refl
 
 pub tag-face : Determines StatesContracts.tag.TagState.face.ended States.tag.TagState.face.Reads.Post
 tag-face κs a x y p q = part p q refl

@@ -12,8 +12,8 @@ use Rattle.determined.proofs.Determined.{part}
 pub name-number : Determines FacesContracts.Name.number.ended Faces.Name.number.Reads.Post
 name-number κs a x y p q = part p q refl
 
-pub row_of : Determines FacesContracts.tag.row_of.ended Faces.tag.row_of.Reads.Post
-row_of κs a x y p q = part p q refl
+pub row_of_lem : Determines FacesContracts.tag.row_of.ended Faces.tag.row_of.Reads.Post
+row_of_lem κs a x y p q = part p q refl
 
 pub face-fits : Determines FacesContracts.tag.face_fits.ended Faces.tag.face_fits.Reads.Post
 face-fits κs a x y p q = part p q refl

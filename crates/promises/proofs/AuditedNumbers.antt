@@ -49,14 +49,14 @@ own_honest = met_with 0 0 2 0 book book-sound book_knows (omega arith) (omega ar
 other_honest : Honest other
 other_honest = met_with 0 0 0 2 book book-sound book_knows (omega arith) (omega arith) (omega arith) (omega arith)
 
-first_of : (s : Setting) → bits_of 64 (first_word s) ≡ keystream 64 (begun_mac s).st
-first_of s = ap (bits_of 64) (first_is s) ∙ word_back 64 (keystream 64 (begun_mac s).st) (length-keystream 64 (begun_mac s).st)
+first_of_lem : (s : Setting) → bits_of 64 (first_word s) ≡ keystream 64 (begun_mac s).st
+first_of_lem s = ap (bits_of 64) (first_is s) ∙ word_back 64 (keystream 64 (begun_mac s).st) (length-keystream 64 (begun_mac s).st)
 
 -- their first words differ in the first bit
 words_differ : first_word other ≡ first_word own → ⊥
 unfolding keystream
 words_differ e =
-    let same = sym (first_of own) ∙ ap (bits_of 64) (sym e) ∙ first_of other in
+    let same = sym (first_of_lem own) ∙ ap (bits_of 64) (sym e) ∙ first_of_lem other in
     true≢false (sym first_bit ∙ ap (λ (l : List Bool). get_or l 0 false) same ∙ exchanged_bit)
 
 -- ---- what the tag says
