@@ -3,7 +3,6 @@
 #![tactic(auto)]
 
 use grain::{Engine, Method, Register, Session, Width};
-use std::io;
 
 // The longest line: 21 of its head, 80 digits of five words, and its end.
 const LINE_BYTES: usize = 102;
@@ -23,17 +22,17 @@ struct Streams {
     engine: Engine,
 }
 
-fn main(rt: HostRuntime) -> io::Result<()> {
+fn main(rt: HostRuntime) {
     let zero = Register { first: 0, last: 0 };
     let key = Register {
         first: 0x0123456789ABCDEF,
         last: 0xFEDCBA9876543210,
     };
-    set_32(&rt, 1, zero, 0x800000000000, 0, Method::Ta, false)?;
-    set_32(&rt, 2, zero, 0x800000000000, 0, Method::Ia, false)?;
-    set_32(&rt, 3, zero, 0x800000000000, 0, Method::Ma, false)?;
-    set_32(&rt, 4, zero, 0, 0, Method::Ma, false)?;
-    set_32(&rt, 5, zero, 0x800000000000, 0, Method::Ma, true)?;
+    set_32(&rt, 1, zero, 0x800000000000, 0, Method::Ta, false);
+    set_32(&rt, 2, zero, 0x800000000000, 0, Method::Ia, false);
+    set_32(&rt, 3, zero, 0x800000000000, 0, Method::Ma, false);
+    set_32(&rt, 4, zero, 0, 0, Method::Ma, false);
+    set_32(&rt, 5, zero, 0x800000000000, 0, Method::Ma, true);
     set_32(
         &rt,
         6,
@@ -42,9 +41,9 @@ fn main(rt: HostRuntime) -> io::Result<()> {
         0x778899AABBCC,
         Method::Ma,
         true,
-    )?;
-    set_64(&rt, 1, zero, 0x800000000000, 0, Method::Ta)?;
-    set_64(&rt, 2, zero, 0x800000000000, 0, Method::Ia)
+    );
+    set_64(&rt, 1, zero, 0x800000000000, 0, Method::Ta);
+    set_64(&rt, 2, zero, 0x800000000000, 0, Method::Ia);
 }
 
 // Tables D.1 to D.3.
@@ -56,65 +55,51 @@ fn set_32(
     tag: u64,
     method: Method,
     secure: bool,
-) -> io::Result<()> {
-    inputs(rt, 32, set, key, reader, tag)?;
+) {
+    inputs(rt, 32, set, key, reader, tag);
     let loaded = Engine::load(key, method, reader, tag);
-    registers(rt, set, 4, loaded)?;
+    registers(rt, set, 4, loaded);
     let e = loaded.start();
-    registers(rt, set, 6, e)?;
+    registers(rt, set, 6, e);
     let more = second_bits(method);
-    pre_output(rt, set, e, more)?;
+    pre_output(rt, set, e, more);
     let x = e.fill(Width::Mac32);
-    number(rt, 32, set, 9, x.acc, 32)?;
-    number(rt, 32, set, 10, x.reg, 32)?;
+    number(rt, 32, set, 9, x.acc, 32);
+    number(rt, 32, set, 10, x.reg, 32);
     let g = x.engine;
-    stream_lines(rt, set, g, more)?;
-    let engine = keystreams(rt, 32, set, 13, g, method)?;
+    stream_lines(rt, set, g, more);
+    let engine = keystreams(rt, 32, set, 13, g, method);
     let y = Session {
         engine,
         acc: x.acc,
         reg: x.reg,
     };
-    command(rt, set, y, secure)
+    command(rt, set, y, secure);
 }
 
 // Table D.4.
-fn set_64(
-    rt: &impl Print,
-    set: u64,
-    key: Register,
-    reader: u64,
-    tag: u64,
-    method: Method,
-) -> io::Result<()> {
-    inputs(rt, 64, set, key, reader, tag)?;
+fn set_64(rt: &impl Print, set: u64, key: Register, reader: u64, tag: u64, method: Method) {
+    inputs(rt, 64, set, key, reader, tag);
     let x = Engine::load(key, method, reader, tag)
         .start()
         .fill(Width::Mac64);
     let g = x.engine;
-    let engine = keystreams(rt, 64, set, 4, g, method)?;
+    let engine = keystreams(rt, 64, set, 4, g, method);
     let y = Session {
         engine,
         acc: x.acc,
         reg: x.reg,
     };
-    message(rt, 64, set, 6)?;
+    message(rt, 64, set, 6);
     let z = y.authenticate(Width::Mac64, b"\x12\x34\x56\x78\xAB", 40);
-    missing(rt, 64, set, 8)?;
-    number(rt, 64, set, 9, z.acc, 64)
+    missing(rt, 64, set, 8);
+    number(rt, 64, set, 9, z.acc, 64);
 }
 
-fn inputs(
-    rt: &impl Print,
-    mac: u64,
-    set: u64,
-    key: Register,
-    reader: u64,
-    tag: u64,
-) -> io::Result<()> {
-    register(rt, mac, set, 1, key)?;
-    number(rt, mac, set, 2, reader, 48)?;
-    number(rt, mac, set, 3, tag, 48)
+fn inputs(rt: &impl Print, mac: u64, set: u64, key: Register, reader: u64, tag: u64) {
+    register(rt, mac, set, 1, key);
+    number(rt, mac, set, 2, reader, 48);
+    number(rt, mac, set, 3, tag, 48);
 }
 
 // The bits of a second word of keystream, which only MA takes.
@@ -127,81 +112,74 @@ fn second_bits(method: Method) -> usize {
 }
 
 // IKeyStream and TKeyStream, on two lines from `line` on; the generator after them.
-fn keystreams(
-    rt: &impl Print,
-    mac: u64,
-    set: u64,
-    line: u64,
-    e: Engine,
-    method: Method,
-) -> io::Result<Engine> {
+fn keystreams(rt: &impl Print, mac: u64, set: u64, line: u64, e: Engine, method: Method) -> Engine {
     let first = e.keystream();
     let next = first.engine;
     match method {
         Method::Ta => {
-            missing(rt, mac, set, line)?;
-            number(rt, mac, set, line.wrapping_add(1), first.word, 64)?;
-            Ok(next)
+            missing(rt, mac, set, line);
+            number(rt, mac, set, line.wrapping_add(1), first.word, 64);
+            next
         }
         Method::Ia => {
-            number(rt, mac, set, line, first.word, 64)?;
-            missing(rt, mac, set, line.wrapping_add(1))?;
-            Ok(next)
+            number(rt, mac, set, line, first.word, 64);
+            missing(rt, mac, set, line.wrapping_add(1));
+            next
         }
         Method::Ma => {
             let second = next.keystream();
-            number(rt, mac, set, line, first.word, 64)?;
-            number(rt, mac, set, line.wrapping_add(1), second.word, 64)?;
-            Ok(second.engine)
+            number(rt, mac, set, line, first.word, 64);
+            number(rt, mac, set, line.wrapping_add(1), second.word, 64);
+            second.engine
         }
     }
 }
 
 // Lines 15 to 25.
-fn command(rt: &impl Print, set: u64, x: Session, secure: bool) -> io::Result<()> {
-    message(rt, 32, set, 15)?;
+fn command(rt: &impl Print, set: u64, x: Session, secure: bool) {
+    message(rt, 32, set, 15);
     let e = x.engine;
-    registers(rt, set, 17, e)?;
-    number(rt, 32, set, 19, x.reg, 32)?;
-    number(rt, 32, set, 20, x.acc, 32)?;
+    registers(rt, set, 17, e);
+    number(rt, 32, set, 19, x.reg, 32);
+    number(rt, 32, set, 20, x.acc, 32);
     let whole = e.outputs(64);
     let rest = whole.engine.outputs(18);
-    words(rt, 32, set, 21, whole.word, rest.word, 18)?;
+    words(rt, 32, set, 21, whole.word, rest.word, 18);
     let s = split(e, 41);
-    number(rt, 32, set, 22, s.key, 41)?;
-    number(rt, 32, set, 23, s.mac, 41)?;
+    number(rt, 32, set, 22, s.key, 41);
+    number(rt, 32, set, 23, s.mac, 41);
     let mut data = *b"\x12\x34\x56\x78\xAB";
     if secure {
         let y = x.encrypt(Width::Mac32, &mut data, 40);
-        number(rt, 32, set, 24, bits::field(&data, 0, 40), 40)?;
-        number(rt, 32, set, 25, y.acc, 32)
+        number(rt, 32, set, 24, bits::field(&data, 0, 40), 40);
+        number(rt, 32, set, 25, y.acc, 32);
     } else {
         let y = x.authenticate(Width::Mac32, &data, 40);
-        missing(rt, 32, set, 24)?;
-        number(rt, 32, set, 25, y.acc, 32)
+        missing(rt, 32, set, 24);
+        number(rt, 32, set, 25, y.acc, 32);
     }
 }
 
 // The message, and its length in bits.
-fn message(rt: &impl Print, mac: u64, set: u64, line: u64) -> io::Result<()> {
-    number(rt, mac, set, line, 0x12345678AB, 40)?;
+fn message(rt: &impl Print, mac: u64, set: u64, line: u64) {
+    number(rt, mac, set, line, 0x12345678AB, 40);
     Line::begin(mac, set, line.wrapping_add(1))
         .put(b"40")
-        .print(rt)
+        .print(rt);
 }
 
 // b and s, on two lines from `line` on.
-fn registers(rt: &impl Print, set: u64, line: u64, e: Engine) -> io::Result<()> {
-    register(rt, 32, set, line, e.b)?;
-    register(rt, 32, set, line.wrapping_add(1), e.s)
+fn registers(rt: &impl Print, set: u64, line: u64, e: Engine) {
+    register(rt, 32, set, line, e.b);
+    register(rt, 32, set, line.wrapping_add(1), e.s);
 }
 
-fn register(rt: &impl Print, mac: u64, set: u64, line: u64, r: Register) -> io::Result<()> {
-    words(rt, mac, set, line, r.first, r.last, 64)
+fn register(rt: &impl Print, mac: u64, set: u64, line: u64, r: Register) {
+    words(rt, mac, set, line, r.first, r.last, 64);
 }
 
 // Line 8: what fills accumulator and shift register, then the pairs of the keystream's words, two words for each.
-fn pre_output(rt: &impl Print, set: u64, e: Engine, more: usize) -> io::Result<()> {
+fn pre_output(rt: &impl Print, set: u64, e: Engine, more: usize) {
     let filling = e.outputs(64);
     let first = filling.engine.outputs(64);
     let second = first.engine.outputs(64);
@@ -213,15 +191,15 @@ fn pre_output(rt: &impl Print, set: u64, e: Engine, more: usize) -> io::Result<(
         .hex(second.word, 64)
         .hex(third.word, more)
         .hex(fourth.word, more)
-        .print(rt)
+        .print(rt);
 }
 
 // Lines 11 and 12: the keystream bits and the MAC bits of the same pairs.
-fn stream_lines(rt: &impl Print, set: u64, e: Engine, more: usize) -> io::Result<()> {
+fn stream_lines(rt: &impl Print, set: u64, e: Engine, more: usize) {
     let a = split(e, 64);
     let b = split(a.engine, 64);
-    words(rt, 32, set, 11, a.key, b.key, more)?;
-    words(rt, 32, set, 12, a.mac, b.mac, more)
+    words(rt, 32, set, 11, a.key, b.key, more);
+    words(rt, 32, set, 12, a.mac, b.mac, more);
 }
 
 fn split(e: Engine, n: usize) -> Streams {
@@ -241,28 +219,20 @@ fn split(e: Engine, n: usize) -> Streams {
     }
 }
 
-fn number(rt: &impl Print, mac: u64, set: u64, line: u64, x: u64, bits: usize) -> io::Result<()> {
-    Line::begin(mac, set, line).hex(x, bits).print(rt)
+fn number(rt: &impl Print, mac: u64, set: u64, line: u64, x: u64, bits: usize) {
+    Line::begin(mac, set, line).hex(x, bits).print(rt);
 }
 
 // A word, and the low `bits` bits of a second.
-fn words(
-    rt: &impl Print,
-    mac: u64,
-    set: u64,
-    line: u64,
-    first: u64,
-    second: u64,
-    bits: usize,
-) -> io::Result<()> {
+fn words(rt: &impl Print, mac: u64, set: u64, line: u64, first: u64, second: u64, bits: usize) {
     Line::begin(mac, set, line)
         .hex(first, 64)
         .hex(second, bits)
-        .print(rt)
+        .print(rt);
 }
 
-fn missing(rt: &impl Print, mac: u64, set: u64, line: u64) -> io::Result<()> {
-    Line::begin(mac, set, line).put(b"N\\A").print(rt)
+fn missing(rt: &impl Print, mac: u64, set: u64, line: u64) {
+    Line::begin(mac, set, line).put(b"N\\A").print(rt);
 }
 
 impl Line {
@@ -294,8 +264,8 @@ impl Line {
         Line { bytes, at }
     }
 
-    fn print(self, rt: &impl Print) -> io::Result<()> {
+    fn print(self, rt: &impl Print) {
         let mut bytes = self.bytes;
-        console::print(rt, &mut bytes, self.at)
+        console::print(rt, &mut bytes, self.at);
     }
 }

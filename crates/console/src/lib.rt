@@ -5,18 +5,15 @@
 ghost use Rattle.std.specs.Prelude.{◌≡◌};
 ghost use Rattle.console.specs.Line.{ended};
 
-use std::io;
-
 // The text of `line` up to `at`, with a line's end behind it, in one write. Where the line's end has no room, the buffer's text is
-// written without it. The contract says how the buffer is left, whether the write failed or not: what is written no contract can
-// say.
-pub fn print(rt: &impl Print, line: &mut [u8], at: usize) -> io::Result<()>
+// written without it. The contract says how the buffer is left: what is written no contract can say.
+pub fn print(rt: &impl Print, line: &mut [u8], at: usize)
     ensures { line.new ≡ ended line.old at }
 {
     let end = text::put(line, at, b"\n");
     if end < line.len() {
-        rt.write_all(&line[..end])
+        let _ = rt.write_all(&line[..end]);
     } else {
-        rt.write_all(line)
+        let _ = rt.write_all(line);
     }
 }

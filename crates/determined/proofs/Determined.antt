@@ -22,7 +22,7 @@ use denote.RattleType.{RattleType}
 use denote.Param.Laws.{Laws}
 use mir.Syntax.{Dict}
 use Rattle.std.specs.declared.io.Print
-use Rattle.determined.specs.Determined.{Determines, DeterminesLeft, DeterminesShown}
+use Rattle.determined.specs.Determined.{Determines, DeterminesShown}
 
 -- ---- the argument: what is equal to one thing is equal, part by part; `refl` for parameters that lend nothing
 
@@ -96,8 +96,8 @@ reply κs a x y p q = writes p q refl
 
 -- whatever it is that takes the bytes
 module _ (R : RattleType) (laws : Laws R) (print-ghosts : Print.Ghosts R.Denot) (dict : Dict) where
-  pub print : DeterminesLeft (ConsoleContracts.print.ended R print-ghosts dict) (Console.print.Reads.Post R laws print-ghosts dict)
-  print κs a x y p q = past 1 _ (part p q refl)
+  pub print : Determines (ConsoleContracts.print.ended R print-ghosts dict) (Console.print.Reads.Post R laws print-ghosts dict)
+  print κs a x y p q = part refl refl (past 1 _ (part p q refl))
 
 -- ---- counts
 

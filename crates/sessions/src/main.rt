@@ -4,7 +4,6 @@
 #![tactic(auto)]
 
 use rules::Answer;
-use std::io;
 use suite::{Reader, ReaderStep, Step, Tag};
 
 // The methods, by their numbers in a payload: TA, IA, MA.
@@ -68,42 +67,40 @@ struct Run {
 }
 
 // Secure messages are MA's alone, so that the other methods have half the options.
-fn main(rt: HostRuntime) -> io::Result<()> {
-    session(&rt, b"TA MAC32", TA, 0)?;
-    session(&rt, b"TA MAC64", TA, 1)?;
-    session(&rt, b"IA MAC32", IA, 0)?;
-    session(&rt, b"IA MAC64", IA, 1)?;
-    session(&rt, b"MA MAC32", MA, 0)?;
-    session(&rt, b"MA MAC64", MA, 1)?;
-    session(&rt, b"MA MAC32 secure", MA, 2)?;
-    session(&rt, b"MA MAC64 secure", MA, 3)?;
-    damaged_session(&rt, b"MA MAC32 secure damaged")?;
-    bought_session(&rt, b"TA MAC32 bought tag", TA)?;
-    bought_session(&rt, b"IA MAC32 bought tag", IA)?;
-    bought_session(&rt, b"MA MAC32 bought tag", MA)
+fn main(rt: HostRuntime) {
+    session(&rt, b"TA MAC32", TA, 0);
+    session(&rt, b"TA MAC64", TA, 1);
+    session(&rt, b"IA MAC32", IA, 0);
+    session(&rt, b"IA MAC64", IA, 1);
+    session(&rt, b"MA MAC32", MA, 0);
+    session(&rt, b"MA MAC64", MA, 1);
+    session(&rt, b"MA MAC32 secure", MA, 2);
+    session(&rt, b"MA MAC64 secure", MA, 3);
+    damaged_session(&rt, b"MA MAC32 secure damaged");
+    bought_session(&rt, b"TA MAC32 bought tag", TA);
+    bought_session(&rt, b"IA MAC32 bought tag", IA);
+    bought_session(&rt, b"MA MAC32 bought tag", MA);
 }
 
-fn session(rt: &impl Print, heading: &[u8], method: u8, options: u8) -> io::Result<()> {
-    print_heading(rt, heading)?;
-    let run = open(rt, method, options)?;
-    let run = messages(rt, run, method, COMM, COMM_WANTED)?;
+fn session(rt: &impl Print, heading: &[u8], method: u8, options: u8) {
+    print_heading(rt, heading);
+    let run = open(rt, method, options);
+    let run = messages(rt, run, method, COMM, COMM_WANTED);
     if SECURE_OPTIONS <= options {
-        messages(rt, run, method, SECURE, SECURE_WANTED)?;
+        messages(rt, run, method, SECURE, SECURE_WANTED);
     }
-    Ok(())
 }
 
 // The tag refuses the damaged message and closes, and so has no answer to give.
-fn damaged_session(rt: &impl Print, heading: &[u8]) -> io::Result<()> {
-    print_heading(rt, heading)?;
-    let run = open(rt, MA, SECURE_OPTIONS)?;
+fn damaged_session(rt: &impl Print, heading: &[u8]) {
+    print_heading(rt, heading);
+    let run = open(rt, MA, SECURE_OPTIONS);
     let mut message = [0u8; Tag::REPLY_BYTES];
     let mut reply = [0u8; Tag::REPLY_BYTES];
-    let run = send(rt, run, SECURE, DATA_BITS, &mut message)?;
+    let run = send(rt, run, SECURE, DATA_BITS, &mut message);
     damage(&mut message);
-    let run = command(rt, run, SECURE, &message, &mut reply)?;
-    response(rt, run, SECURE_WANTED, DATA_BITS, &mut reply)?;
-    Ok(())
+    let run = command(rt, run, SECURE, &message, &mut reply);
+    response(rt, run, SECURE_WANTED, DATA_BITS, &mut reply);
 }
 
 fn damage(message: &mut [u8]) {
@@ -113,22 +110,21 @@ fn damage(message: &mut [u8]) {
 
 // The bought tag answers as ours does, and says that it can't. The reader turns it away in TA and IA and is closed then, and the
 // same response again finds no work; MA needs no bit and goes on.
-fn bought_session(rt: &impl Print, heading: &[u8], method: u8) -> io::Result<()> {
-    print_heading(rt, heading)?;
+fn bought_session(rt: &impl Print, heading: &[u8], method: u8) {
+    print_heading(rt, heading);
     let mut message = [0u8; Tag::REPLY_BYTES];
     let mut reply = [0u8; Tag::REPLY_BYTES];
-    let run = begin(rt, fresh(), method, 0, &mut message)?;
-    let run = command(rt, run, AUTH, &message, &mut reply)?;
+    let run = begin(rt, fresh(), method, 0, &mut message);
+    let run = command(rt, run, AUTH, &message, &mut reply);
     let bits = run.bits;
     disclaim(&mut reply);
-    print_call(rt, b"bought tag ", Answer::Done, bits, &reply)?;
-    let run = replied(rt, run, &reply, &mut message)?;
+    print_call(rt, b"bought tag ", Answer::Done, bits, &reply);
+    let run = replied(rt, run, &reply, &mut message);
     if method == MA {
-        prove(rt, run, &mut message)?;
-        return Ok(());
+        prove(rt, run, &mut message);
+        return;
     }
-    replied(rt, given(run, bits), &reply, &mut message)?;
-    Ok(())
+    replied(rt, given(run, bits), &reply, &mut message);
 }
 
 // The same machines, and so many bits for the next of them.
@@ -144,12 +140,12 @@ fn disclaim(response: &mut [u8]) {
 }
 
 // The authentication: TA has one command and its response, the others two.
-fn open(rt: &impl Print, method: u8, options: u8) -> io::Result<Run> {
+fn open(rt: &impl Print, method: u8, options: u8) -> Run {
     let mut message = [0u8; Tag::REPLY_BYTES];
-    let run = begin(rt, fresh(), method, options, &mut message)?;
-    let run = prove(rt, run, &mut message)?;
+    let run = begin(rt, fresh(), method, options, &mut message);
+    let run = prove(rt, run, &mut message);
     if method == TA {
-        return Ok(run);
+        return run;
     }
     prove(rt, run, &mut message)
 }
@@ -167,144 +163,114 @@ fn fresh() -> Run {
 }
 
 // The tag takes the reader's command, and the reader the tag's response: its reply is the command after it.
-fn prove(rt: &impl Print, run: Run, message: &mut [u8]) -> io::Result<Run> {
+fn prove(rt: &impl Print, run: Run, message: &mut [u8]) -> Run {
     let mut reply = [0u8; Tag::REPLY_BYTES];
-    let run = command(rt, run, AUTH, message, &mut reply)?;
+    let run = command(rt, run, AUTH, message, &mut reply);
     replied(rt, run, &reply, message)
 }
 
 // The messages of one kind, the data and then one of no bits: IA has them to the tag, TA to the reader, MA both ways.
-fn messages(rt: &impl Print, run: Run, method: u8, kind: u8, wanted: u8) -> io::Result<Run> {
+fn messages(rt: &impl Print, run: Run, method: u8, kind: u8, wanted: u8) -> Run {
     let mut next = run;
     if method != TA {
-        next = to_tag(rt, next, kind, DATA_BITS)?;
-        next = to_tag(rt, next, kind, 0)?;
+        next = to_tag(rt, next, kind, DATA_BITS);
+        next = to_tag(rt, next, kind, 0);
     }
     if method != IA {
-        next = to_reader(rt, next, wanted, kind, DATA_BITS)?;
-        next = to_reader(rt, next, wanted, kind, 0)?;
+        next = to_reader(rt, next, wanted, kind, DATA_BITS);
+        next = to_reader(rt, next, wanted, kind, 0);
     }
-    Ok(next)
+    next
 }
 
-fn to_tag(rt: &impl Print, run: Run, kind: u8, count: usize) -> io::Result<Run> {
+fn to_tag(rt: &impl Print, run: Run, kind: u8, count: usize) -> Run {
     let mut message = [0u8; Tag::REPLY_BYTES];
     let mut reply = [0u8; Tag::REPLY_BYTES];
-    let run = send(rt, run, kind, count, &mut message)?;
+    let run = send(rt, run, kind, count, &mut message);
     command(rt, run, kind, &message, &mut reply)
 }
 
-fn to_reader(rt: &impl Print, run: Run, wanted: u8, kind: u8, count: usize) -> io::Result<Run> {
+fn to_reader(rt: &impl Print, run: Run, wanted: u8, kind: u8, count: usize) -> Run {
     let mut message = [0u8; Tag::REPLY_BYTES];
     let mut reply = [0u8; Tag::REPLY_BYTES];
-    let run = response(rt, run, wanted, count, &mut message)?;
+    let run = response(rt, run, wanted, count, &mut message);
     receive(rt, run, kind, &message, &mut reply)
 }
 
 // ---- the reader's calls, each with its line
 
-fn begin(rt: &impl Print, run: Run, method: u8, options: u8, reply: &mut [u8]) -> io::Result<Run> {
+fn begin(rt: &impl Print, run: Run, method: u8, options: u8, reply: &mut [u8]) -> Run {
     let step = run
         .reader
         .begin(method, options, KEYID, READER_NUMBER, &BOOK, reply);
     after_reader(rt, b"reader begin ", run, step, reply)
 }
 
-fn replied(rt: &impl Print, run: Run, message: &[u8], reply: &mut [u8]) -> io::Result<Run> {
+fn replied(rt: &impl Print, run: Run, message: &[u8], reply: &mut [u8]) -> Run {
     let step = run.reader.replied(message, run.bits, reply);
     after_reader(rt, b"reader replied ", run, step, reply)
 }
 
-fn send(rt: &impl Print, run: Run, kind: u8, count: usize, reply: &mut [u8]) -> io::Result<Run> {
+fn send(rt: &impl Print, run: Run, kind: u8, count: usize, reply: &mut [u8]) -> Run {
     let step = run.reader.send(kind, &DATA, count, reply);
     after_reader(rt, b"reader send ", run, step, reply)
 }
 
-fn receive(
-    rt: &impl Print,
-    run: Run,
-    kind: u8,
-    message: &[u8],
-    reply: &mut [u8],
-) -> io::Result<Run> {
+fn receive(rt: &impl Print, run: Run, kind: u8, message: &[u8], reply: &mut [u8]) -> Run {
     let step = run.reader.receive(kind, message, run.bits, reply);
     after_reader(rt, b"reader receive ", run, step, reply)
 }
 
-fn after_reader(
-    rt: &impl Print,
-    name: &[u8],
-    run: Run,
-    step: ReaderStep,
-    reply: &[u8],
-) -> io::Result<Run> {
+fn after_reader(rt: &impl Print, name: &[u8], run: Run, step: ReaderStep, reply: &[u8]) -> Run {
     let answer = step.answer;
-    print_call(rt, name, answer, step.bits, reply)?;
+    print_call(rt, name, answer, step.bits, reply);
     let reader = step.next;
     let tag = run.tag;
-    Ok(Run {
+    Run {
         reader,
         tag,
         bits: step.bits,
-    })
+    }
 }
 
 // ---- the tag's calls, each with its line
 
-fn command(
-    rt: &impl Print,
-    run: Run,
-    kind: u8,
-    message: &[u8],
-    reply: &mut [u8],
-) -> io::Result<Run> {
+fn command(rt: &impl Print, run: Run, kind: u8, message: &[u8], reply: &mut [u8]) -> Run {
     let step = run.tag.command(kind, message, run.bits, FEATURES, &BOOK, TAG_NUMBER, reply);
     after_tag(rt, b"tag command ", run, step, reply)
 }
 
-fn response(
-    rt: &impl Print,
-    run: Run,
-    wanted: u8,
-    count: usize,
-    reply: &mut [u8],
-) -> io::Result<Run> {
+fn response(rt: &impl Print, run: Run, wanted: u8, count: usize, reply: &mut [u8]) -> Run {
     let step = run.tag.response(wanted, &DATA, count, reply);
     after_tag(rt, b"tag response ", run, step, reply)
 }
 
-fn after_tag(rt: &impl Print, name: &[u8], run: Run, step: Step, reply: &[u8]) -> io::Result<Run> {
+fn after_tag(rt: &impl Print, name: &[u8], run: Run, step: Step, reply: &[u8]) -> Run {
     let answer = step.answer;
-    print_call(rt, name, answer, step.bits, reply)?;
+    print_call(rt, name, answer, step.bits, reply);
     let reader = run.reader;
     let tag = step.next;
-    Ok(Run {
+    Run {
         reader,
         tag,
         bits: step.bits,
-    })
+    }
 }
 
 // ---- lines
 
-fn print_heading(rt: &impl Print, heading: &[u8]) -> io::Result<()> {
+fn print_heading(rt: &impl Print, heading: &[u8]) {
     let mut line = [0u8; LINE_BYTES];
     let at = text::put(&mut line, 0, heading);
-    console::print(rt, &mut line, at)
+    console::print(rt, &mut line, at);
 }
 
 // Who is called and for what, the answer, the reply's bits, the reply.
-fn print_call(
-    rt: &impl Print,
-    name: &[u8],
-    answer: Answer,
-    count: usize,
-    reply: &[u8],
-) -> io::Result<()> {
+fn print_call(rt: &impl Print, name: &[u8], answer: Answer, count: usize, reply: &[u8]) {
     let mut line = [0u8; LINE_BYTES];
     let at = text::put(&mut line, 0, name);
     let at = text::spaced(&mut line, at, answer.number() as u64);
     let at = text::spaced(&mut line, at, count as u64);
     let at = text::reply(&mut line, at, reply, count);
-    console::print(rt, &mut line, at)
+    console::print(rt, &mut line, at);
 }

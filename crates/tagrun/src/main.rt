@@ -1,11 +1,10 @@
 // `tagrun` runs the frames of standard input through one tag and prints a line for each (document 01, "Host frames").
 #![tactic(auto)]
 
-ghost use Rattle.std.specs.Prelude.{◌≤◌, length, IfOk};
+ghost use Rattle.std.specs.Prelude.{◌≤◌, length};
 
 use faces::Name;
 use frames::{Refusal, Scanned};
-use std::io;
 use std::io::Read;
 use suite::{Step, Tag};
 
@@ -23,33 +22,33 @@ const NUMBER: u64 = 0x778899AABBCC;
 const LINE_BYTES: usize = 24 + 2 * Tag::REPLY_BYTES;
 
 // One byte more than it runs is asked for, and tells that the input is too long.
-fn main(rt: HostRuntime) -> io::Result<()> {
+fn main(rt: HostRuntime) {
     let mut input = [0u8; MOST_BYTES + 1];
-    let n = read_full(&mut rt.stdin(), &mut input)?;
+    let n = read_full(&mut rt.stdin(), &mut input);
     if MOST_BYTES < n {
-        rt.write_all(b"input too long\n")
+        let _ = rt.write_all(b"input too long\n");
     } else {
-        run(&rt, &input[..n])
+        run(&rt, &input[..n]);
     }
 }
 
-// Reads until the buffer is full or the input ends; how many bytes stand in the buffer then.
-fn read_full<R: Read>(from: &mut R, buffer: &mut [u8]) -> io::Result<usize>
-    ensures { IfOk result (λ n. n ≤ length buffer.new) }
+// Reads until the buffer is full or the input ends; a read that fails ends it too. How many bytes stand in the buffer then.
+fn read_full<R: Read>(from: &mut R, buffer: &mut [u8]) -> usize
+    ensures { result ≤ length buffer.new }
 {
     let mut at = 0;
     while at < buffer.len() {
-        let n = from.read(&mut buffer[at..])?;
-        if n == 0 {
-            break;
+        match from.read(&mut buffer[at..]) {
+            Ok(0) => break,
+            Ok(n) => at += n,
+            Err(_) => break,
         }
-        at += n;
     }
-    Ok(at)
+    at
 }
 
 // A bad frame ends the run.
-fn run(rt: &impl Print, input: &[u8]) -> io::Result<()> {
+fn run(rt: &impl Print, input: &[u8]) {
     let mut tag = fresh();
     let mut number: u64 = 0;
     let mut at: usize = 0;
@@ -58,7 +57,8 @@ fn run(rt: &impl Print, input: &[u8]) -> io::Result<()> {
         let rest = &input[at..];
         match frames::scan(rest) {
             Scanned::Refused(why) => {
-                return print_refusal(rt, number, why);
+                print_refusal(rt, number, why);
+                return;
             }
             Scanned::Frame {
                 kind,
@@ -66,12 +66,11 @@ fn run(rt: &impl Print, input: &[u8]) -> io::Result<()> {
                 start: _,
                 end,
             } => {
-                tag = run_frame(rt, tag, number, kind, frames::payload(rest), count)?;
+                tag = run_frame(rt, tag, number, kind, frames::payload(rest), count);
                 at += end;
             }
         }
     }
-    Ok(())
 }
 
 // The tag as a reset leaves it.
@@ -88,27 +87,27 @@ fn run_frame(
     kind: u8,
     payload: &[u8],
     count: usize,
-) -> io::Result<Tag> {
+) -> Tag {
     // KeyID 05 and the key of Annex D's set 6.
     let book = b"\x05\x01\x23\x45\x67\x89\xAB\xCD\xEF\xFE\xDC\xBA\x98\x76\x54\x32\x10";
     let mut reply = [0u8; Tag::REPLY_BYTES];
     let step = host::run(
         tag, kind, payload, count, FEATURES, book, NUMBER, &mut reply,
     );
-    print_step(rt, number, step, &reply)?;
-    Ok(step.next)
+    print_step(rt, number, step, &reply);
+    step.next
 }
 
 // Frame number, refusal.
-fn print_refusal(rt: &impl Print, number: u64, why: Refusal) -> io::Result<()> {
+fn print_refusal(rt: &impl Print, number: u64, why: Refusal) {
     let mut line = [0u8; LINE_BYTES];
     let at = text::spaced(&mut line, 0, number);
     let at = text::decimal(&mut line, at, why.number() as u64);
-    console::print(rt, &mut line, at)
+    console::print(rt, &mut line, at);
 }
 
 // Frame number, answer, state, reply bits, reply.
-fn print_step(rt: &impl Print, number: u64, step: Step, reply: &[u8]) -> io::Result<()> {
+fn print_step(rt: &impl Print, number: u64, step: Step, reply: &[u8]) {
     let answer = step.answer;
     let name = step.next.state.face().name;
     let mut line = [0u8; LINE_BYTES];
@@ -117,7 +116,7 @@ fn print_step(rt: &impl Print, number: u64, step: Step, reply: &[u8]) -> io::Res
     let at = put_name(&mut line, at, name);
     let at = text::spaced(&mut line, at, step.bits as u64);
     let at = text::reply(&mut line, at, reply, step.bits);
-    console::print(rt, &mut line, at)
+    console::print(rt, &mut line, at);
 }
 
 // A state's name, and the space behind it.
