@@ -70,6 +70,10 @@ pub count-step : (s : List ℕ) (at most : ℕ) → at < length s
 unfolding count_at count_from
 count-step s at most h = rw (drop-cons s at 0 h, add-one at)
 
+-- a high bit set promises a group more: 21 where the limit has no room for it, also where the slice ends behind that byte
+pub count_over : (s : List ℕ) (at most : ℕ) → at < length s → group ≤ get_or s at 0 → most < group → count_at s at most ≡ Refused Count
+count_over s at most h k l = rw (count-step s at most h) (simp (le-ltb _ _ k, lt-ltb _ _ l))
+
 -- a second count byte with its high bit set is 21, where the limit has two groups
 pub second_high : (at most b d : ℕ) (rest : List ℕ) → group ≤ b → group ≤ d → most < group * group
     → count_from at most (b ∷ d ∷ rest) ≡ Refused Count

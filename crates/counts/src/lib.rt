@@ -60,6 +60,7 @@ impl Refusal {
 }
 
 // The count that begins at `at` and is at most `most`.
+#[tactic(auto, using(crate::proofs::Counts::count_over))]
 pub fn read(s: &[u8], at: usize, most: usize) -> Counted
     ensures { result ≡ count_at s.now at most }
 {
@@ -140,6 +141,7 @@ fn up_to(most: usize, count: usize, next: usize) -> Counted
 }
 
 // The count whose lowest group is `low` and whose other groups spell `high`: not in its shortest form where that is 0.
+#[tactic(auto, unfolding(crate::specs::Count::joined))]
 fn join(most: usize, low: usize, high: usize, next: usize) -> Counted
     requires { (low < group) × (high ≤ most / group) }
     ensures { result ≡ joined most low (Counted.Is high next) }

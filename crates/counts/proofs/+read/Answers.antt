@@ -1,5 +1,5 @@
 -- `read` meets its contract. Assumes nothing.
-use Prim.Native.Nat.{ℕ, ◌+◌, ◌-◌, ◌/◌, ◌<◌, ◌≤◌}
+use Prim.Native.Nat.{ℕ, ◌+◌, ◌-◌, ◌/◌, ◌≤◌}
 use mathlib.Core.Path.{◌≡◌}
 use native.Mathlib.Omega.{arith}
 use lib.ListN.{get_or, drop_of_length-le}
@@ -27,12 +27,6 @@ returns-then-group-lt-GROUP t c =
     let a = c.args in
     rw (count-step a.s.now a.at a.most c.if-s-at.false)
     (simp (lt-ltb _ _ c.if-group-lt-GROUP.true) c.up_to.ensures)
-
-pub returns-then-most-lt-GROUP : goal.returns-then-most-lt-GROUP
-returns-then-most-lt-GROUP t c =
-    let a = c.args in
-    let none : a.most < group = omega arith in
-    rw (count-step a.s.now a.at a.most c.if-s-at.false) (simp (le-ltb _ _ c.if-group-lt-GROUP.false, lt-ltb _ _ none))
 
 pub join-requires : goal.join-requires
 join-requires t c =
