@@ -7,6 +7,7 @@ use Rattle.bits.specs.Bytes.{bits_of_bytes, field_of, word_bits}
 use Rattle.bits.proofs.Area.{octet-field, octet-lt}
 use Rattle.bits.proofs.octet.Goals as goal
 
+-- the shifted field, as the law has it, and that it is a byte
 shifted : (c : goal.After-field-x)
     → let u = c.used_bits-used.result in
     let x = field_of (8 * c.args.i) u (bits_of_bytes c.args.bytes.now) * 2 ^ (8 - u) in

@@ -9,6 +9,7 @@ use borrow.Author.Tests.{lt-ltb, le-ltb}
 use Rattle.bits.proofs.Bytes.{length-bits_of_bytes}
 use Rattle.payloads.proofs.beyond.Goals as goal
 
+-- bits are missing exactly where the count goes past all there are
 cut : (n m : ℕ) → ltb (min n m) n ≡ ltb m n
 cut n m =
     elim (dec_le n m) [

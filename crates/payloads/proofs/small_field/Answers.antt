@@ -7,6 +7,7 @@ use Rattle.bits.specs.Bytes.{bits_of_bytes, field_of, word_bits}
 use Rattle.bits.proofs.Bytes.{field_lt}
 use Rattle.payloads.proofs.small_field.Goals as goal
 
+-- a field of at most eight bits is read whole
 whole : (c : goal.After-field-x) → let a = c.args in c.field-x.result ≡ field_of a.at a.w (bits_of_bytes a.s.now)
 whole c =
     let a = c.args in

@@ -11,10 +11,13 @@ use Rattle.frames.specs.declared.Scanned.{Scanned}
 use Rattle.frames.proofs.Answers.{FrameRead, frame_read, frame_within}
 use Rattle.tagrun.proofs.run.Goals as goal
 
--- a frame has a byte at least, and lies within the input
-within : (s : List ℕ) (at kind count start end : ℕ) → Octets s
-    → scan_of (take (length s - at) (drop at s)) ≡ Scanned.Frame kind count start end → (0 < end) × (end ≤ length s - at)
-within s at kind count start end b e =
+-- a frame that begins at a place has a byte at least, and lies inside the input
+abbrev Inside : List ℕ → ℕ → ℕ → Type 0
+Inside s at end = (0 < end) × (end ≤ length s - at)
+
+inside : (s : List ℕ) (at kind count start end : ℕ) → Octets s
+    → scan_of (take (length s - at) (drop at s)) ≡ Scanned.Frame kind count start end → Inside s at end
+inside s at kind count start end b e =
     let all : take (length s - at) (drop at s) ≡ drop at s = take_all (length s - at) (drop at s) (rw length-drop (omega arith)) in
     let bytes : Octets (drop at s) = λ i. rw (get_or-drop at s i 0) (b (at + i)) in
     let r : FrameRead (drop at s) kind count start end = frame_read (drop at s) kind count start end bytes (rw all at e) in
@@ -22,18 +25,15 @@ within s at kind count start end b e =
 
 pub overflow_add-at : goal.overflow_add-at
 overflow_add-at g c =
-    let s = c.args.input.now in
-    let h : (0 < c.in-Frame.end) × (c.in-Frame.end ≤ length s - c.loop-at.at) = within s _ _ _ _ _ c.type_inv.input (sym c.in-Frame.ensures) in
+    let h : Inside c.args.input.now c.loop-at.at c.in-Frame.end = inside _ _ _ _ _ _ c.type_inv.input (sym c.in-Frame.ensures) in
     omega arith
 
 pub loop-at-smaller : goal.loop-at-smaller
 loop-at-smaller g c =
-    let s = c.args.input.now in
-    let h : (0 < c.in-Frame.end) × (c.in-Frame.end ≤ length s - c.loop-at.at) = within s _ _ _ _ _ c.type_inv.input (sym c.in-Frame.ensures) in
+    let h : Inside c.args.input.now c.loop-at.at c.in-Frame.end = inside _ _ _ _ _ _ c.type_inv.input (sym c.in-Frame.ensures) in
     omega arith
 
 pub loop-at-preserved : goal.loop-at-preserved
 loop-at-preserved g c =
-    let s = c.args.input.now in
-    let h : (0 < c.in-Frame.end) × (c.in-Frame.end ≤ length s - c.loop-at.at) = within s _ _ _ _ _ c.type_inv.input (sym c.in-Frame.ensures) in
+    let h : Inside c.args.input.now c.loop-at.at c.in-Frame.end = inside _ _ _ _ _ _ c.type_inv.input (sym c.in-Frame.ensures) in
     (omega arith, omega arith)

@@ -10,6 +10,7 @@ use borrow.Author.Tests.{lt-ltb, eq-eqb, ne_eqb, ltb-true, ltb-false}
 use borrow.Author.Rules.{rules}
 use Rattle.states.proofs.session.above.Goals as goal
 
+-- nothing is left above the w low bits exactly where x is above 2 ^ w
 none_left : (x w : ℕ) → eqb (x / 2 ^ w) 0 ≡ ltb x (2 ^ w)
 none_left x w = go (ltb x (2 ^ w)) refl
   where
