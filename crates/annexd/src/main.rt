@@ -124,10 +124,10 @@ fn split(e: Engine, n: usize) -> Streams {
 }
 
 // The low `bits` bits of x as whole bytes, zeros at the end, as Annex D writes them.
-fn hex(line: Line<LINE_BYTES>, x: u64, bits: usize) -> Line<LINE_BYTES> {
+fn hex(line: &mut Line<LINE_BYTES>, x: u64, bits: usize) {
     let mut bytes = [0u8; 8];
     bits::put(&mut bytes, 0, bits, x);
-    line.hex(&bytes, bits.div_ceil(8))
+    line.hex(&bytes, bits.div_ceil(8));
 }
 
 impl<'a, P: Print> Set<'a, P> {
@@ -145,10 +145,10 @@ impl<'a, P: Print> Set<'a, P> {
         let mut g = e;
         for bits in [64, 64, 64, more, more] {
             let next = g.outputs(64);
-            line = hex(line, next.word, bits);
+            hex(&mut line, next.word, bits);
             g = next.engine;
         }
-        self.end(line);
+        self.print(&mut line);
     }
 
     // Lines 11 and 12: the keystream bits and the MAC bits of the same pairs.
@@ -215,8 +215,8 @@ impl<'a, P: Print> Set<'a, P> {
     fn message(&self, line: u64)
         requires { line < 25 }
     {
-        self.end(self.begin(line).hex(&MESSAGE, MESSAGE.len()));
-        self.end(self.begin(line + 1).decimal(MESSAGE_BITS as u64));
+        self.number(line, bits::field(&MESSAGE, 0, MESSAGE_BITS), MESSAGE_BITS);
+        self.text(line + 1, b"40");
     }
 
     // b and s, on two lines from `line` on.
@@ -232,32 +232,44 @@ impl<'a, P: Print> Set<'a, P> {
     }
 
     fn number(&self, line: u64, x: u64, bits: usize) {
-        self.end(hex(self.begin(line), x, bits));
+        let mut line = self.begin(line);
+        hex(&mut line, x, bits);
+        self.print(&mut line);
     }
 
     // A word, and the low `bits` bits of a second.
     fn words(&self, line: u64, first: u64, second: u64, bits: usize) {
-        self.end(hex(hex(self.begin(line), first, 64), second, bits));
+        let mut line = self.begin(line);
+        hex(&mut line, first, 64);
+        hex(&mut line, second, bits);
+        self.print(&mut line);
     }
 
     fn missing(&self, line: u64) {
-        self.end(self.begin(line).put(b"N\\A"));
+        self.text(line, b"N\\A");
+    }
+
+    fn text(&self, line: u64, text: &[u8]) {
+        let mut line = self.begin(line);
+        line.put(text);
+        self.print(&mut line);
     }
 
     // MAC, set and number.
     fn begin(&self, number: u64) -> Line<LINE_BYTES> {
-        Line::new()
-            .put(b"MAC")
-            .decimal(self.width.bits() as u64)
-            .put(b" set ")
-            .decimal(self.number)
-            .put(b" line ")
-            .decimal(number)
-            .put(b": ")
+        let mut line = Line::new();
+        line.put(b"MAC");
+        line.decimal(self.width.bits() as u64);
+        line.put(b" set ");
+        line.decimal(self.number);
+        line.put(b" line ");
+        line.decimal(number);
+        line.put(b": ");
+        line
     }
 
-    fn end(&self, line: Line<LINE_BYTES>) {
-        let Line { mut bytes, at } = line;
-        console::print(self.rt, &mut bytes, at);
+    fn print(&self, line: &mut Line<LINE_BYTES>) {
+        let at = line.at;
+        console::print(self.rt, &mut line.bytes, at);
     }
 }

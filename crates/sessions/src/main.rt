@@ -138,7 +138,7 @@ fn disclaim(response: &mut [u8]) {
 impl<'a, P: Print> Run<'a, P> {
     // Both machines as a reset leaves them, below a heading.
     fn fresh(rt: &'a P, heading: &[u8]) -> Self {
-        print(rt, Line::new().put(heading));
+        print_heading(rt, heading);
         let mut reply = [0u8; Tag::REPLY_BYTES];
         let reader = Reader::reset(&mut reply).next;
         let tag = Tag::reset(&mut reply).next;
@@ -253,15 +253,21 @@ impl<'a, P: Print> Run<'a, P> {
 
 // Who is called and for what, the answer, the reply's bits, the reply.
 fn print_call(rt: &impl Print, name: &[u8], answer: Answer, count: usize, reply: &[u8]) {
-    let line = Line::new()
-        .put(name)
-        .spaced(answer.number() as u64)
-        .spaced(count as u64)
-        .reply(reply, count);
-    print(rt, line);
+    let mut line = Line::new();
+    line.put(name);
+    line.spaced(answer.number() as u64);
+    line.spaced(count as u64);
+    line.reply(reply, count);
+    print(rt, &mut line);
 }
 
-fn print(rt: &impl Print, line: Line<LINE_BYTES>) {
-    let Line { mut bytes, at } = line;
-    console::print(rt, &mut bytes, at);
+fn print_heading(rt: &impl Print, heading: &[u8]) {
+    let mut line = Line::new();
+    line.put(heading);
+    print(rt, &mut line);
+}
+
+fn print(rt: &impl Print, line: &mut Line<LINE_BYTES>) {
+    let at = line.at;
+    console::print(rt, &mut line.bytes, at);
 }

@@ -102,24 +102,27 @@ fn run_frame(
 
 // Frame number, refusal.
 fn print_refusal(rt: &impl Print, number: u64, why: Refusal) {
-    print(rt, Line::new().spaced(number).decimal(why.number() as u64));
+    let mut line = Line::new();
+    line.spaced(number);
+    line.decimal(why.number() as u64);
+    print(rt, &mut line);
 }
 
 // Frame number, answer, state, reply bits, reply.
 fn print_step(rt: &impl Print, number: u64, step: Step, reply: &[u8]) {
-    let line = Line::new()
-        .spaced(number)
-        .spaced(step.answer.number() as u64)
-        .put(name_of(step.next.state.face().name))
-        .put(b" ")
-        .spaced(step.bits as u64)
-        .reply(reply, step.bits);
-    print(rt, line);
+    let mut line = Line::new();
+    line.spaced(number);
+    line.spaced(step.answer.number() as u64);
+    line.put(name_of(step.next.state.face().name));
+    line.put(b" ");
+    line.spaced(step.bits as u64);
+    line.reply(reply, step.bits);
+    print(rt, &mut line);
 }
 
-fn print(rt: &impl Print, line: Line<LINE_BYTES>) {
-    let Line { mut bytes, at } = line;
-    console::print(rt, &mut bytes, at);
+fn print(rt: &impl Print, line: &mut Line<LINE_BYTES>) {
+    let at = line.at;
+    console::print(rt, &mut line.bytes, at);
 }
 
 // A state's name.

@@ -88,13 +88,13 @@ fn digit(d: u8) -> u8
 }
 
 // A line's text, and the place behind what is written of it.
-#[derive(Clone, Copy)]
+#[derive(Drop)]
 pub struct Line<const N: usize> {
     pub bytes: [u8; N],
     pub at: usize,
 }
 
-// Each method writes what the function of its name does.
+// Each method but `new` writes what the function of its name does. They take the line by `&mut`: by value each would copy it.
 impl<const N: usize> Line<N> {
     // A line with no text.
     pub fn new() -> Self
@@ -106,38 +106,33 @@ impl<const N: usize> Line<N> {
         }
     }
 
-    pub fn put(mut self, text: &[u8]) -> Self
-        ensures { Writes text.now self.entry.bytes self.entry.at result.bytes result.at }
+    pub fn put(&mut self, text: &[u8])
+        ensures { Writes text.now self.old.bytes self.old.at self.new.bytes self.new.at }
     {
         self.at = put(&mut self.bytes, self.at, text);
-        self
     }
 
-    pub fn decimal(mut self, n: u64) -> Self
-        ensures { Writes (decimal_of n) self.entry.bytes self.entry.at result.bytes result.at }
+    pub fn decimal(&mut self, n: u64)
+        ensures { Writes (decimal_of n) self.old.bytes self.old.at self.new.bytes self.new.at }
     {
         self.at = decimal(&mut self.bytes, self.at, n);
-        self
     }
 
-    pub fn hex(mut self, bytes: &[u8], n: usize) -> Self
-        ensures { Writes (hex_of (take n bytes.now)) self.entry.bytes self.entry.at result.bytes result.at }
+    pub fn hex(&mut self, bytes: &[u8], n: usize)
+        ensures { Writes (hex_of (take n bytes.now)) self.old.bytes self.old.at self.new.bytes self.new.at }
     {
         self.at = hex(&mut self.bytes, self.at, bytes, n);
-        self
     }
 
-    pub fn spaced(mut self, n: u64) -> Self
-        ensures { Writes (spaced_of n) self.entry.bytes self.entry.at result.bytes result.at }
+    pub fn spaced(&mut self, n: u64)
+        ensures { Writes (spaced_of n) self.old.bytes self.old.at self.new.bytes self.new.at }
     {
         self.at = spaced(&mut self.bytes, self.at, n);
-        self
     }
 
-    pub fn reply(mut self, bytes: &[u8], count: usize) -> Self
-        ensures { Writes (reply_of count bytes.now) self.entry.bytes self.entry.at result.bytes result.at }
+    pub fn reply(&mut self, bytes: &[u8], count: usize)
+        ensures { Writes (reply_of count bytes.now) self.old.bytes self.old.at self.new.bytes self.new.at }
     {
         self.at = reply(&mut self.bytes, self.at, bytes, count);
-        self
     }
 }
