@@ -2,16 +2,25 @@
 // MAC, set and number; the file `stdout` holds the values that the standard prints.
 #![tactic(auto)]
 
+ghost use Rattle.std.specs.Prelude.{◌<◌};
+
 use grain::{Engine, Method, Register, Session, Width};
+use text::Line;
 
 // The longest line: 21 of its head, 80 digits of five words, and its end.
 const LINE_BYTES: usize = 102;
 
-// A line's text, and the place behind what is written of it.
-#[derive(Clone, Copy)]
-struct Line {
-    bytes: [u8; LINE_BYTES],
-    at: usize,
+// The message of every set, and its bits.
+const MESSAGE: [u8; 5] = *b"\x12\x34\x56\x78\xAB";
+
+const MESSAGE_BITS: usize = 40;
+
+// A set of the tables: where its lines are printed, and what heads each of them, the MAC's width and the set's number.
+#[derive(Drop)]
+struct Set<'a, P> {
+    rt: &'a P,
+    width: Width,
+    number: u64,
 }
 
 // Keystream bits and MAC bits, and the generator after their pairs.
@@ -49,223 +58,218 @@ fn main(rt: HostRuntime) {
 // Tables D.1 to D.3.
 fn set_32(
     rt: &impl Print,
-    set: u64,
+    number: u64,
     key: Register,
     reader: u64,
     tag: u64,
     method: Method,
     secure: bool,
 ) {
-    inputs(rt, 32, set, key, reader, tag);
-    let loaded = Engine::load(key, method, reader, tag);
-    registers(rt, set, 4, loaded);
-    let e = loaded.start();
-    registers(rt, set, 6, e);
-    let more = second_bits(method);
-    pre_output(rt, set, e, more);
-    let x = e.fill(Width::Mac32);
-    number(rt, 32, set, 9, x.acc, 32);
-    number(rt, 32, set, 10, x.reg, 32);
-    let g = x.engine;
-    stream_lines(rt, set, g, more);
-    let engine = keystreams(rt, 32, set, 13, g, method);
-    let y = Session {
-        engine,
-        acc: x.acc,
-        reg: x.reg,
+    let set = Set {
+        rt,
+        width: Width::Mac32,
+        number,
     };
-    command(rt, set, y, secure);
+    let loaded = set.load(key, method, reader, tag);
+    set.registers(4, loaded);
+    let e = loaded.start();
+    set.registers(6, e);
+    let more = second_bits(method);
+    set.pre_output(e, more);
+    let x = e.fill(set.width);
+    set.number(9, x.acc, 32);
+    set.number(10, x.reg, 32);
+    set.streams(x.engine, more);
+    set.command(set.keystreams(13, x, method), secure);
 }
 
 // Table D.4.
-fn set_64(rt: &impl Print, set: u64, key: Register, reader: u64, tag: u64, method: Method) {
-    inputs(rt, 64, set, key, reader, tag);
-    let x = Engine::load(key, method, reader, tag)
-        .start()
-        .fill(Width::Mac64);
-    let g = x.engine;
-    let engine = keystreams(rt, 64, set, 4, g, method);
-    let y = Session {
-        engine,
-        acc: x.acc,
-        reg: x.reg,
+fn set_64(rt: &impl Print, number: u64, key: Register, reader: u64, tag: u64, method: Method) {
+    let set = Set {
+        rt,
+        width: Width::Mac64,
+        number,
     };
-    message(rt, 64, set, 6);
-    let z = y.authenticate(Width::Mac64, b"\x12\x34\x56\x78\xAB", 40);
-    missing(rt, 64, set, 8);
-    number(rt, 64, set, 9, z.acc, 64);
-}
-
-fn inputs(rt: &impl Print, mac: u64, set: u64, key: Register, reader: u64, tag: u64) {
-    register(rt, mac, set, 1, key);
-    number(rt, mac, set, 2, reader, 48);
-    number(rt, mac, set, 3, tag, 48);
+    let x = set.load(key, method, reader, tag).start().fill(set.width);
+    let y = set.keystreams(4, x, method);
+    set.message(6);
+    set.missing(8);
+    let z = y.authenticate(set.width, &MESSAGE, MESSAGE_BITS);
+    set.number(9, z.acc, 64);
 }
 
 // The bits of a second word of keystream, which only MA takes.
 fn second_bits(method: Method) -> usize {
     match method {
-        Method::Ta => 0,
-        Method::Ia => 0,
+        Method::Ta | Method::Ia => 0,
         Method::Ma => 64,
     }
 }
 
-// IKeyStream and TKeyStream, on two lines from `line` on; the generator after them.
-fn keystreams(rt: &impl Print, mac: u64, set: u64, line: u64, e: Engine, method: Method) -> Engine {
-    let first = e.keystream();
-    let next = first.engine;
-    match method {
-        Method::Ta => {
-            missing(rt, mac, set, line);
-            number(rt, mac, set, line.wrapping_add(1), first.word, 64);
-            next
-        }
-        Method::Ia => {
-            number(rt, mac, set, line, first.word, 64);
-            missing(rt, mac, set, line.wrapping_add(1));
-            next
-        }
-        Method::Ma => {
-            let second = next.keystream();
-            number(rt, mac, set, line, first.word, 64);
-            number(rt, mac, set, line.wrapping_add(1), second.word, 64);
-            second.engine
-        }
-    }
-}
-
-// Lines 15 to 25.
-fn command(rt: &impl Print, set: u64, x: Session, secure: bool) {
-    message(rt, 32, set, 15);
-    let e = x.engine;
-    registers(rt, set, 17, e);
-    number(rt, 32, set, 19, x.reg, 32);
-    number(rt, 32, set, 20, x.acc, 32);
-    let whole = e.outputs(64);
-    let rest = whole.engine.outputs(18);
-    words(rt, 32, set, 21, whole.word, rest.word, 18);
-    let s = split(e, 41);
-    number(rt, 32, set, 22, s.key, 41);
-    number(rt, 32, set, 23, s.mac, 41);
-    let mut data = *b"\x12\x34\x56\x78\xAB";
-    if secure {
-        let y = x.encrypt(Width::Mac32, &mut data, 40);
-        number(rt, 32, set, 24, bits::field(&data, 0, 40), 40);
-        number(rt, 32, set, 25, y.acc, 32);
-    } else {
-        let y = x.authenticate(Width::Mac32, &data, 40);
-        missing(rt, 32, set, 24);
-        number(rt, 32, set, 25, y.acc, 32);
-    }
-}
-
-// The message, and its length in bits.
-fn message(rt: &impl Print, mac: u64, set: u64, line: u64) {
-    number(rt, mac, set, line, 0x12345678AB, 40);
-    Line::begin(mac, set, line.wrapping_add(1))
-        .put(b"40")
-        .print(rt);
-}
-
-// b and s, on two lines from `line` on.
-fn registers(rt: &impl Print, set: u64, line: u64, e: Engine) {
-    register(rt, 32, set, line, e.b);
-    register(rt, 32, set, line.wrapping_add(1), e.s);
-}
-
-fn register(rt: &impl Print, mac: u64, set: u64, line: u64, r: Register) {
-    words(rt, mac, set, line, r.first, r.last, 64);
-}
-
-// Line 8: what fills accumulator and shift register, then the pairs of the keystream's words, two words for each.
-fn pre_output(rt: &impl Print, set: u64, e: Engine, more: usize) {
-    let filling = e.outputs(64);
-    let first = filling.engine.outputs(64);
-    let second = first.engine.outputs(64);
-    let third = second.engine.outputs(64);
-    let fourth = third.engine.outputs(64);
-    Line::begin(32, set, 8)
-        .hex(filling.word, 64)
-        .hex(first.word, 64)
-        .hex(second.word, 64)
-        .hex(third.word, more)
-        .hex(fourth.word, more)
-        .print(rt);
-}
-
-// Lines 11 and 12: the keystream bits and the MAC bits of the same pairs.
-fn stream_lines(rt: &impl Print, set: u64, e: Engine, more: usize) {
-    let a = split(e, 64);
-    let b = split(a.engine, 64);
-    words(rt, 32, set, 11, a.key, b.key, more);
-    words(rt, 32, set, 12, a.mac, b.mac, more);
-}
-
 fn split(e: Engine, n: usize) -> Streams {
-    let mut g = e;
-    let mut key: u64 = 0;
-    let mut mac: u64 = 0;
+    let mut s = Streams {
+        key: 0,
+        mac: 0,
+        engine: e,
+    };
     for _ in 0..n {
-        let p = g.pair();
-        key = (key << 1) | (p.key as u64);
-        mac = (mac << 1) | (p.mac as u64);
-        g = p.engine;
+        let p = s.engine.pair();
+        s = Streams {
+            key: (s.key << 1) | u64::from(p.key),
+            mac: (s.mac << 1) | u64::from(p.mac),
+            engine: p.engine,
+        };
     }
-    Streams {
-        key,
-        mac,
-        engine: g,
+    s
+}
+
+// The low `bits` bits of x as whole bytes, zeros at the end, as Annex D writes them.
+fn hex(line: &mut Line<LINE_BYTES>, x: u64, bits: usize) {
+    let mut bytes = [0u8; 8];
+    bits::put(&mut bytes, 0, bits, x);
+    line.hex(&bytes, bits.div_ceil(8));
+}
+
+impl<'a, P: Print> Set<'a, P> {
+    // Lines 1 to 3, and the generator as the inputs load it.
+    fn load(&self, key: Register, method: Method, reader: u64, tag: u64) -> Engine {
+        self.register(1, key);
+        self.number(2, reader, 48);
+        self.number(3, tag, 48);
+        Engine::load(key, method, reader, tag)
     }
-}
 
-fn number(rt: &impl Print, mac: u64, set: u64, line: u64, x: u64, bits: usize) {
-    Line::begin(mac, set, line).hex(x, bits).print(rt);
-}
+    // Line 8: what fills accumulator and shift register, then the pairs of the keystream's words, two words for each.
+    fn pre_output(&self, e: Engine, more: usize) {
+        let mut line = self.begin(8);
+        let mut g = e;
+        for bits in [64, 64, 64, more, more] {
+            let next = g.outputs(64);
+            hex(&mut line, next.word, bits);
+            g = next.engine;
+        }
+        self.print(&mut line);
+    }
 
-// A word, and the low `bits` bits of a second.
-fn words(rt: &impl Print, mac: u64, set: u64, line: u64, first: u64, second: u64, bits: usize) {
-    Line::begin(mac, set, line)
-        .hex(first, 64)
-        .hex(second, bits)
-        .print(rt);
-}
+    // Lines 11 and 12: the keystream bits and the MAC bits of the same pairs.
+    fn streams(&self, e: Engine, more: usize) {
+        let a = split(e, 64);
+        let b = split(a.engine, 64);
+        self.words(11, a.key, b.key, more);
+        self.words(12, a.mac, b.mac, more);
+    }
 
-fn missing(rt: &impl Print, mac: u64, set: u64, line: u64) {
-    Line::begin(mac, set, line).put(b"N\\A").print(rt);
-}
+    // IKeyStream and TKeyStream, on two lines from `line` on; the session after them.
+    fn keystreams(&self, line: u64, x: Session, method: Method) -> Session
+        requires { line < 25 }
+    {
+        let first = x.engine.keystream();
+        let next = first.engine;
+        let engine = match method {
+            Method::Ta => {
+                self.missing(line);
+                self.number(line + 1, first.word, 64);
+                next
+            }
+            Method::Ia => {
+                self.number(line, first.word, 64);
+                self.missing(line + 1);
+                next
+            }
+            Method::Ma => {
+                let second = next.keystream();
+                self.number(line, first.word, 64);
+                self.number(line + 1, second.word, 64);
+                second.engine
+            }
+        };
+        Session { engine, ..x }
+    }
 
-impl Line {
+    // Lines 15 to 25.
+    fn command(&self, x: Session, secure: bool) {
+        self.message(15);
+        let e = x.engine;
+        self.registers(17, e);
+        self.number(19, x.reg, 32);
+        self.number(20, x.acc, 32);
+        let whole = e.outputs(64);
+        let rest = whole.engine.outputs(18);
+        self.words(21, whole.word, rest.word, 18);
+        let s = split(e, 41);
+        self.number(22, s.key, 41);
+        self.number(23, s.mac, 41);
+        let mut data = MESSAGE;
+        let y = if secure {
+            let sealed = x.encrypt(self.width, &mut data, MESSAGE_BITS);
+            self.number(24, bits::field(&data, 0, MESSAGE_BITS), MESSAGE_BITS);
+            sealed
+        } else {
+            self.missing(24);
+            x.authenticate(self.width, &data, MESSAGE_BITS)
+        };
+        self.number(25, y.acc, 32);
+    }
+
+    // The message, and its length in bits.
+    fn message(&self, line: u64)
+        requires { line < 25 }
+    {
+        self.number(line, bits::field(&MESSAGE, 0, MESSAGE_BITS), MESSAGE_BITS);
+        self.text(line + 1, b"40");
+    }
+
+    // b and s, on two lines from `line` on.
+    fn registers(&self, line: u64, e: Engine)
+        requires { line < 25 }
+    {
+        self.register(line, e.b);
+        self.register(line + 1, e.s);
+    }
+
+    fn register(&self, line: u64, r: Register) {
+        self.words(line, r.first, r.last, 64);
+    }
+
+    fn number(&self, line: u64, x: u64, bits: usize) {
+        let mut line = self.begin(line);
+        hex(&mut line, x, bits);
+        self.print(&mut line);
+    }
+
+    // A word, and the low `bits` bits of a second.
+    fn words(&self, line: u64, first: u64, second: u64, bits: usize) {
+        let mut line = self.begin(line);
+        hex(&mut line, first, 64);
+        hex(&mut line, second, bits);
+        self.print(&mut line);
+    }
+
+    fn missing(&self, line: u64) {
+        self.text(line, b"N\\A");
+    }
+
+    fn text(&self, line: u64, text: &[u8]) {
+        let mut line = self.begin(line);
+        line.put(text);
+        self.print(&mut line);
+    }
+
     // MAC, set and number.
-    fn begin(mac: u64, set: u64, number: u64) -> Line {
-        let mut bytes = [0u8; LINE_BYTES];
-        let at = text::put(&mut bytes, 0, b"MAC");
-        let at = text::decimal(&mut bytes, at, mac);
-        let at = text::put(&mut bytes, at, b" set ");
-        let at = text::decimal(&mut bytes, at, set);
-        let at = text::put(&mut bytes, at, b" line ");
-        let at = text::decimal(&mut bytes, at, number);
-        let at = text::put(&mut bytes, at, b": ");
-        Line { bytes, at }
+    fn begin(&self, number: u64) -> Line<LINE_BYTES> {
+        let mut line = Line::new();
+        line.put(b"MAC");
+        line.decimal(self.width.bits() as u64);
+        line.put(b" set ");
+        line.decimal(self.number);
+        line.put(b" line ");
+        line.decimal(number);
+        line.put(b": ");
+        line
     }
 
-    fn put(self, words: &[u8]) -> Line {
-        let mut bytes = self.bytes;
-        let at = text::put(&mut bytes, self.at, words);
-        Line { bytes, at }
-    }
-
-    // The low `bits` bits of x as whole bytes, zeros at the end, as Annex D writes them.
-    fn hex(self, x: u64, bits: usize) -> Line {
-        let mut value = [0u8; 8];
-        bits::put(&mut value, 0, bits, x);
-        let mut bytes = self.bytes;
-        let at = text::hex(&mut bytes, self.at, &value, (bits::word_bits(bits) + 7) / 8);
-        Line { bytes, at }
-    }
-
-    fn print(self, rt: &impl Print) {
-        let mut bytes = self.bytes;
-        console::print(rt, &mut bytes, self.at);
+    fn print(&self, line: &mut Line<LINE_BYTES>) {
+        let at = line.at;
+        console::print(self.rt, &mut line.bytes, at);
     }
 }

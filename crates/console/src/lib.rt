@@ -11,9 +11,5 @@ pub fn print(rt: &impl Print, line: &mut [u8], at: usize)
     ensures { line.new ≡ ended line.old at }
 {
     let end = text::put(line, at, b"\n");
-    if end < line.len() {
-        let _ = rt.write_all(&line[..end]);
-    } else {
-        let _ = rt.write_all(line);
-    }
+    let _ = rt.write_all(&line[..end.min(line.len())]);
 }

@@ -8,6 +8,7 @@ use Rattle.bits.specs.contracts as BitsContracts
 use Rattle.text.proofs as Text
 use Rattle.text.specs.contracts as TextContracts
 use Rattle.text.specs.Text.{Writes}
+use Rattle.text.specs.declared.Line.{Line}
 use Rattle.console.proofs as Console
 use Rattle.console.specs.contracts as ConsoleContracts
 use Rattle.counts.proofs as Counts
@@ -19,8 +20,10 @@ use Rattle.frames.specs.contracts as FramesContracts
 use Rattle.payloads.proofs as Payloads
 use Rattle.payloads.specs.contracts as PayloadsContracts
 use denote.RattleType.{RattleType}
+use denote.Param.{number}
 use denote.Param.Laws.{Laws}
-use mir.Syntax.{Dict}
+use mir.Syntax.{Dict, w64}
+use mir.Val.{Fits}
 use Rattle.std.specs.declared.io.Print
 use Rattle.determined.specs.Determined.{Determines, DeterminesShown}
 
@@ -91,6 +94,33 @@ spaced κs a x y p q = writes p q refl
 
 pub reply : Determines TextContracts.reply.ended Text.reply.Reads.Post
 reply κs a x y p q = writes p q refl
+
+-- a line of any length that a `usize` can be
+module _ (n : ℕ) (fits : Fits w64 n) where
+  abbrev line : List ℕ → ℕ → Line n
+  line bytes at = record { bytes = bytes; at = at }
+
+  lined : {W : Type 0} {text before : List ℕ} {at : ℕ} {x y : Unit {0} × (Line n × W)}
+      → Writes text before at x.1.0.bytes x.1.0.at → Writes text before at y.1.0.bytes y.1.0.at → x.1.1 ≡ y.1.1 → x ≡ y
+  lined p q r = part refl refl (part (ap₂ line p.bytes p.place) (ap₂ line q.bytes q.place) r)
+
+  pub line_new : Determines (TextContracts.Line.new.ended (number n)) (Text.Line.new.Reads.Post n fits)
+  line_new κs a x y p q = part p q refl
+
+  pub line_put : Determines (TextContracts.Line.put.ended (number n)) (Text.Line.put.Reads.Post n fits)
+  line_put κs a x y p q = lined p q refl
+
+  pub line_decimal : Determines (TextContracts.Line.decimal.ended (number n)) (Text.Line.decimal.Reads.Post n fits)
+  line_decimal κs a x y p q = lined p q refl
+
+  pub line_hex : Determines (TextContracts.Line.hex.ended (number n)) (Text.Line.hex.Reads.Post n fits)
+  line_hex κs a x y p q = lined p q refl
+
+  pub line_spaced : Determines (TextContracts.Line.spaced.ended (number n)) (Text.Line.spaced.Reads.Post n fits)
+  line_spaced κs a x y p q = lined p q refl
+
+  pub line_reply : Determines (TextContracts.Line.reply.ended (number n)) (Text.Line.reply.Reads.Post n fits)
+  line_reply κs a x y p q = lined p q refl
 
 -- ---- console
 

@@ -5,13 +5,15 @@
 
 use rules::Answer;
 use suite::{Reader, ReaderStep, Step, Tag};
+use text::Line;
 
-// The methods, by their numbers in a payload: TA, IA, MA.
-const TA: u8 = 0;
-
-const IA: u8 = 1;
-
-const MA: u8 = 2;
+// The methods, by their numbers in a payload.
+#[derive(Clone, Copy, PartialEq, Eq)]
+enum Method {
+    Ta,
+    Ia,
+    Ma,
+}
 
 // The kinds of what is handed on: authentication, comm, secure.
 const AUTH: u8 = 0;
@@ -58,9 +60,10 @@ const IA_FEATURE: usize = 6;
 // behind them.
 const LINE_BYTES: usize = 24 + 2 * Tag::REPLY_BYTES;
 
-// Both machines, and the bits of the last call's reply, which the other machine is given.
-#[derive(Clone, Copy)]
-struct Run {
+// Both machines, where their calls are printed, and the bits of the last call's reply, which the other machine is given.
+#[derive(Drop)]
+struct Run<'a, P> {
+    rt: &'a P,
     reader: Reader,
     tag: Tag,
     bits: usize,
@@ -68,39 +71,39 @@ struct Run {
 
 // Secure messages are MA's alone, so that the other methods have half the options.
 fn main(rt: HostRuntime) {
-    session(&rt, b"TA MAC32", TA, 0);
-    session(&rt, b"TA MAC64", TA, 1);
-    session(&rt, b"IA MAC32", IA, 0);
-    session(&rt, b"IA MAC64", IA, 1);
-    session(&rt, b"MA MAC32", MA, 0);
-    session(&rt, b"MA MAC64", MA, 1);
-    session(&rt, b"MA MAC32 secure", MA, 2);
-    session(&rt, b"MA MAC64 secure", MA, 3);
+    session(&rt, b"TA MAC32", Method::Ta, 0);
+    session(&rt, b"TA MAC64", Method::Ta, 1);
+    session(&rt, b"IA MAC32", Method::Ia, 0);
+    session(&rt, b"IA MAC64", Method::Ia, 1);
+    session(&rt, b"MA MAC32", Method::Ma, 0);
+    session(&rt, b"MA MAC64", Method::Ma, 1);
+    session(&rt, b"MA MAC32 secure", Method::Ma, 2);
+    session(&rt, b"MA MAC64 secure", Method::Ma, 3);
     damaged_session(&rt, b"MA MAC32 secure damaged");
-    bought_session(&rt, b"TA MAC32 bought tag", TA);
-    bought_session(&rt, b"IA MAC32 bought tag", IA);
-    bought_session(&rt, b"MA MAC32 bought tag", MA);
+    bought_session(&rt, b"TA MAC32 bought tag", Method::Ta);
+    bought_session(&rt, b"IA MAC32 bought tag", Method::Ia);
+    bought_session(&rt, b"MA MAC32 bought tag", Method::Ma);
 }
 
-fn session(rt: &impl Print, heading: &[u8], method: u8, options: u8) {
-    print_heading(rt, heading);
-    let run = open(rt, method, options);
-    let run = messages(rt, run, method, COMM, COMM_WANTED);
+fn session(rt: &impl Print, heading: &[u8], method: Method, options: u8) {
+    let run = Run::fresh(rt, heading)
+        .open(method, options)
+        .messages(method, COMM, COMM_WANTED);
     if SECURE_OPTIONS <= options {
-        messages(rt, run, method, SECURE, SECURE_WANTED);
+        run.messages(method, SECURE, SECURE_WANTED);
     }
 }
 
 // The tag refuses the damaged message and closes, and so has no answer to give.
 fn damaged_session(rt: &impl Print, heading: &[u8]) {
-    print_heading(rt, heading);
-    let run = open(rt, MA, SECURE_OPTIONS);
     let mut message = [0u8; Tag::REPLY_BYTES];
     let mut reply = [0u8; Tag::REPLY_BYTES];
-    let run = send(rt, run, SECURE, DATA_BITS, &mut message);
+    let run = Run::fresh(rt, heading)
+        .open(Method::Ma, SECURE_OPTIONS)
+        .send(SECURE, DATA_BITS, &mut message);
     damage(&mut message);
-    let run = command(rt, run, SECURE, &message, &mut reply);
-    response(rt, run, SECURE_WANTED, DATA_BITS, &mut reply);
+    run.command(SECURE, &message, &mut reply)
+        .response(SECURE_WANTED, DATA_BITS, &mut reply);
 }
 
 fn damage(message: &mut [u8]) {
@@ -110,28 +113,21 @@ fn damage(message: &mut [u8]) {
 
 // The bought tag answers as ours does, and says that it can't. The reader turns it away in TA and IA and is closed then, and the
 // same response again finds no work; MA needs no bit and goes on.
-fn bought_session(rt: &impl Print, heading: &[u8], method: u8) {
-    print_heading(rt, heading);
+fn bought_session(rt: &impl Print, heading: &[u8], method: Method) {
     let mut message = [0u8; Tag::REPLY_BYTES];
     let mut reply = [0u8; Tag::REPLY_BYTES];
-    let run = begin(rt, fresh(), method, 0, &mut message);
-    let run = command(rt, run, AUTH, &message, &mut reply);
+    let run = Run::fresh(rt, heading)
+        .begin(method, 0, &mut message)
+        .command(AUTH, &message, &mut reply);
     let bits = run.bits;
     disclaim(&mut reply);
     print_call(rt, b"bought tag ", Answer::Done, bits, &reply);
-    let run = replied(rt, run, &reply, &mut message);
-    if method == MA {
-        prove(rt, run, &mut message);
-        return;
+    let run = run.replied(&reply, &mut message);
+    if method == Method::Ma {
+        run.prove(&mut message);
+    } else {
+        Run { bits, ..run }.replied(&reply, &mut message);
     }
-    replied(rt, given(run, bits), &reply, &mut message);
-}
-
-// The same machines, and so many bits for the next of them.
-fn given(run: Run, bits: usize) -> Run {
-    let reader = run.reader;
-    let tag = run.tag;
-    Run { reader, tag, bits }
 }
 
 fn disclaim(response: &mut [u8]) {
@@ -139,138 +135,139 @@ fn disclaim(response: &mut [u8]) {
     bits::set_bit(response, IA_FEATURE, false);
 }
 
-// The authentication: TA has one command and its response, the others two.
-fn open(rt: &impl Print, method: u8, options: u8) -> Run {
-    let mut message = [0u8; Tag::REPLY_BYTES];
-    let run = begin(rt, fresh(), method, options, &mut message);
-    let run = prove(rt, run, &mut message);
-    if method == TA {
-        return run;
+impl<'a, P: Print> Run<'a, P> {
+    // Both machines as a reset leaves them, below a heading.
+    fn fresh(rt: &'a P, heading: &[u8]) -> Self {
+        print_heading(rt, heading);
+        let mut reply = [0u8; Tag::REPLY_BYTES];
+        let reader = Reader::reset(&mut reply).next;
+        let tag = Tag::reset(&mut reply).next;
+        Run {
+            rt,
+            reader,
+            tag,
+            bits: 0,
+        }
     }
-    prove(rt, run, &mut message)
-}
 
-// Both machines as a reset leaves them.
-fn fresh() -> Run {
-    let mut reply = [0u8; Tag::REPLY_BYTES];
-    let reader = Reader::reset(&mut reply).next;
-    let tag = Tag::reset(&mut reply).next;
-    Run {
-        reader,
-        tag,
-        bits: 0,
+    // The authentication: TA has one command and its response, the others two.
+    fn open(self, method: Method, options: u8) -> Self {
+        let mut message = [0u8; Tag::REPLY_BYTES];
+        let run = self
+            .begin(method, options, &mut message)
+            .prove(&mut message);
+        if method == Method::Ta {
+            return run;
+        }
+        run.prove(&mut message)
     }
-}
 
-// The tag takes the reader's command, and the reader the tag's response: its reply is the command after it.
-fn prove(rt: &impl Print, run: Run, message: &mut [u8]) -> Run {
-    let mut reply = [0u8; Tag::REPLY_BYTES];
-    let run = command(rt, run, AUTH, message, &mut reply);
-    replied(rt, run, &reply, message)
-}
-
-// The messages of one kind, the data and then one of no bits: IA has them to the tag, TA to the reader, MA both ways.
-fn messages(rt: &impl Print, run: Run, method: u8, kind: u8, wanted: u8) -> Run {
-    let mut next = run;
-    if method != TA {
-        next = to_tag(rt, next, kind, DATA_BITS);
-        next = to_tag(rt, next, kind, 0);
+    // The tag takes the reader's command, and the reader the tag's response: its reply is the command after it.
+    fn prove(self, message: &mut [u8]) -> Self {
+        let mut reply = [0u8; Tag::REPLY_BYTES];
+        self.command(AUTH, message, &mut reply)
+            .replied(&reply, message)
     }
-    if method != IA {
-        next = to_reader(rt, next, wanted, kind, DATA_BITS);
-        next = to_reader(rt, next, wanted, kind, 0);
+
+    // The messages of one kind, the data and then one of no bits: IA has them to the tag, TA to the reader, MA both ways.
+    fn messages(mut self, method: Method, kind: u8, wanted: u8) -> Self {
+        if method != Method::Ta {
+            self = self.to_tag(kind, DATA_BITS).to_tag(kind, 0);
+        }
+        if method != Method::Ia {
+            self = self
+                .to_reader(wanted, kind, DATA_BITS)
+                .to_reader(wanted, kind, 0);
+        }
+        self
     }
-    next
-}
 
-fn to_tag(rt: &impl Print, run: Run, kind: u8, count: usize) -> Run {
-    let mut message = [0u8; Tag::REPLY_BYTES];
-    let mut reply = [0u8; Tag::REPLY_BYTES];
-    let run = send(rt, run, kind, count, &mut message);
-    command(rt, run, kind, &message, &mut reply)
-}
-
-fn to_reader(rt: &impl Print, run: Run, wanted: u8, kind: u8, count: usize) -> Run {
-    let mut message = [0u8; Tag::REPLY_BYTES];
-    let mut reply = [0u8; Tag::REPLY_BYTES];
-    let run = response(rt, run, wanted, count, &mut message);
-    receive(rt, run, kind, &message, &mut reply)
-}
-
-// ---- the reader's calls, each with its line
-
-fn begin(rt: &impl Print, run: Run, method: u8, options: u8, reply: &mut [u8]) -> Run {
-    let step = run
-        .reader
-        .begin(method, options, KEYID, READER_NUMBER, &BOOK, reply);
-    after_reader(rt, b"reader begin ", run, step, reply)
-}
-
-fn replied(rt: &impl Print, run: Run, message: &[u8], reply: &mut [u8]) -> Run {
-    let step = run.reader.replied(message, run.bits, reply);
-    after_reader(rt, b"reader replied ", run, step, reply)
-}
-
-fn send(rt: &impl Print, run: Run, kind: u8, count: usize, reply: &mut [u8]) -> Run {
-    let step = run.reader.send(kind, &DATA, count, reply);
-    after_reader(rt, b"reader send ", run, step, reply)
-}
-
-fn receive(rt: &impl Print, run: Run, kind: u8, message: &[u8], reply: &mut [u8]) -> Run {
-    let step = run.reader.receive(kind, message, run.bits, reply);
-    after_reader(rt, b"reader receive ", run, step, reply)
-}
-
-fn after_reader(rt: &impl Print, name: &[u8], run: Run, step: ReaderStep, reply: &[u8]) -> Run {
-    let answer = step.answer;
-    print_call(rt, name, answer, step.bits, reply);
-    let reader = step.next;
-    let tag = run.tag;
-    Run {
-        reader,
-        tag,
-        bits: step.bits,
+    fn to_tag(self, kind: u8, count: usize) -> Self {
+        let mut message = [0u8; Tag::REPLY_BYTES];
+        let mut reply = [0u8; Tag::REPLY_BYTES];
+        self.send(kind, count, &mut message)
+            .command(kind, &message, &mut reply)
     }
-}
 
-// ---- the tag's calls, each with its line
-
-fn command(rt: &impl Print, run: Run, kind: u8, message: &[u8], reply: &mut [u8]) -> Run {
-    let step = run.tag.command(kind, message, run.bits, FEATURES, &BOOK, TAG_NUMBER, reply);
-    after_tag(rt, b"tag command ", run, step, reply)
-}
-
-fn response(rt: &impl Print, run: Run, wanted: u8, count: usize, reply: &mut [u8]) -> Run {
-    let step = run.tag.response(wanted, &DATA, count, reply);
-    after_tag(rt, b"tag response ", run, step, reply)
-}
-
-fn after_tag(rt: &impl Print, name: &[u8], run: Run, step: Step, reply: &[u8]) -> Run {
-    let answer = step.answer;
-    print_call(rt, name, answer, step.bits, reply);
-    let reader = run.reader;
-    let tag = step.next;
-    Run {
-        reader,
-        tag,
-        bits: step.bits,
+    fn to_reader(self, wanted: u8, kind: u8, count: usize) -> Self {
+        let mut message = [0u8; Tag::REPLY_BYTES];
+        let mut reply = [0u8; Tag::REPLY_BYTES];
+        self.response(wanted, count, &mut message)
+            .receive(kind, &message, &mut reply)
     }
-}
 
-// ---- lines
+    // ---- the reader's calls, each with its line
 
-fn print_heading(rt: &impl Print, heading: &[u8]) {
-    let mut line = [0u8; LINE_BYTES];
-    let at = text::put(&mut line, 0, heading);
-    console::print(rt, &mut line, at);
+    fn begin(self, method: Method, options: u8, reply: &mut [u8]) -> Self {
+        let step = self
+            .reader
+            .begin(method as u8, options, KEYID, READER_NUMBER, &BOOK, reply);
+        self.after_reader(b"reader begin ", step, reply)
+    }
+
+    fn replied(self, message: &[u8], reply: &mut [u8]) -> Self {
+        let step = self.reader.replied(message, self.bits, reply);
+        self.after_reader(b"reader replied ", step, reply)
+    }
+
+    fn send(self, kind: u8, count: usize, reply: &mut [u8]) -> Self {
+        let step = self.reader.send(kind, &DATA, count, reply);
+        self.after_reader(b"reader send ", step, reply)
+    }
+
+    fn receive(self, kind: u8, message: &[u8], reply: &mut [u8]) -> Self {
+        let step = self.reader.receive(kind, message, self.bits, reply);
+        self.after_reader(b"reader receive ", step, reply)
+    }
+
+    fn after_reader(self, name: &[u8], step: ReaderStep, reply: &[u8]) -> Self {
+        print_call(self.rt, name, step.answer, step.bits, reply);
+        Run {
+            reader: step.next,
+            bits: step.bits,
+            ..self
+        }
+    }
+
+    // ---- the tag's calls, each with its line
+
+    fn command(self, kind: u8, message: &[u8], reply: &mut [u8]) -> Self {
+        let step = self.tag.command(kind, message, self.bits, FEATURES, &BOOK, TAG_NUMBER, reply);
+        self.after_tag(b"tag command ", step, reply)
+    }
+
+    fn response(self, wanted: u8, count: usize, reply: &mut [u8]) -> Self {
+        let step = self.tag.response(wanted, &DATA, count, reply);
+        self.after_tag(b"tag response ", step, reply)
+    }
+
+    fn after_tag(self, name: &[u8], step: Step, reply: &[u8]) -> Self {
+        print_call(self.rt, name, step.answer, step.bits, reply);
+        Run {
+            tag: step.next,
+            bits: step.bits,
+            ..self
+        }
+    }
 }
 
 // Who is called and for what, the answer, the reply's bits, the reply.
 fn print_call(rt: &impl Print, name: &[u8], answer: Answer, count: usize, reply: &[u8]) {
-    let mut line = [0u8; LINE_BYTES];
-    let at = text::put(&mut line, 0, name);
-    let at = text::spaced(&mut line, at, answer.number() as u64);
-    let at = text::spaced(&mut line, at, count as u64);
-    let at = text::reply(&mut line, at, reply, count);
-    console::print(rt, &mut line, at);
+    let mut line = Line::new();
+    line.put(name);
+    line.spaced(answer.number() as u64);
+    line.spaced(count as u64);
+    line.reply(reply, count);
+    print(rt, &mut line);
+}
+
+fn print_heading(rt: &impl Print, heading: &[u8]) {
+    let mut line = Line::new();
+    line.put(heading);
+    print(rt, &mut line);
+}
+
+fn print(rt: &impl Print, line: &mut Line<LINE_BYTES>) {
+    let at = line.at;
+    console::print(rt, &mut line.bytes, at);
 }

@@ -7,6 +7,7 @@ use faces::Name;
 use frames::{Refusal, Scanned};
 use std::io::Read;
 use suite::{Step, Tag};
+use text::Line;
 
 // The most bytes that it runs.
 const MOST_BYTES: usize = 32768;
@@ -37,6 +38,7 @@ fn read_full<R: Read>(from: &mut R, buffer: &mut [u8]) -> usize
     ensures { result ≤ length buffer.new }
 {
     let mut at = 0;
+    // By a place: `read_exact` says of a failed read not how much came before it, which is run, and `read_to_end` needs memory.
     while at < buffer.len() {
         match from.read(&mut buffer[at..]) {
             Ok(0) => break,
@@ -100,33 +102,37 @@ fn run_frame(
 
 // Frame number, refusal.
 fn print_refusal(rt: &impl Print, number: u64, why: Refusal) {
-    let mut line = [0u8; LINE_BYTES];
-    let at = text::spaced(&mut line, 0, number);
-    let at = text::decimal(&mut line, at, why.number() as u64);
-    console::print(rt, &mut line, at);
+    let mut line = Line::new();
+    line.spaced(number);
+    line.decimal(why.number() as u64);
+    print(rt, &mut line);
 }
 
 // Frame number, answer, state, reply bits, reply.
 fn print_step(rt: &impl Print, number: u64, step: Step, reply: &[u8]) {
-    let answer = step.answer;
-    let name = step.next.state.face().name;
-    let mut line = [0u8; LINE_BYTES];
-    let at = text::spaced(&mut line, 0, number);
-    let at = text::spaced(&mut line, at, answer.number() as u64);
-    let at = put_name(&mut line, at, name);
-    let at = text::spaced(&mut line, at, step.bits as u64);
-    let at = text::reply(&mut line, at, reply, step.bits);
-    console::print(rt, &mut line, at);
+    let mut line = Line::new();
+    line.spaced(number);
+    line.spaced(step.answer.number() as u64);
+    line.put(name_of(step.next.state.face().name));
+    line.put(b" ");
+    line.spaced(step.bits as u64);
+    line.reply(reply, step.bits);
+    print(rt, &mut line);
 }
 
-// A state's name, and the space behind it.
-fn put_name(out: &mut [u8], at: usize, name: Name) -> usize {
+fn print(rt: &impl Print, line: &mut Line<LINE_BYTES>) {
+    let at = line.at;
+    console::print(rt, &mut line.bytes, at);
+}
+
+// A state's name.
+fn name_of(name: Name) -> &'static [u8] {
     match name {
-        Name::CsReset => text::put(out, at, b"CS-Reset "),
-        Name::Ta1 => text::put(out, at, b"TA.1 "),
-        Name::Ia1 => text::put(out, at, b"IA.1 "),
-        Name::Ia2 => text::put(out, at, b"IA.2 "),
-        Name::Ma1 => text::put(out, at, b"MA.1 "),
-        Name::Ma2 => text::put(out, at, b"MA.2 "),
+        Name::CsReset => b"CS-Reset",
+        Name::Ta1 => b"TA.1",
+        Name::Ia1 => b"IA.1",
+        Name::Ia2 => b"IA.2",
+        Name::Ma1 => b"MA.1",
+        Name::Ma2 => b"MA.2",
     }
 }

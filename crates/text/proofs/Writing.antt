@@ -1,12 +1,11 @@
 -- Texts that are written one behind the other. Assumes nothing.
-use Prim.Native.Nat.{ℕ, ◌+◌, min}
+use Prim.Native.Nat.{ℕ, ◌+◌}
 use mathlib.Core.List.{List, [], ◌++◌}
 use mathlib.Core.Path.{◌≡◌, refl, ap, sym, ◌∙◌}
 use native.Mathlib.Decide.{dec_le}
-use native.Mathlib.Nat.{min-eq_left}
 use native.Mathlib.Omega.{arith}
-use lib.ListN.{length, take, length-append}
-use lib.Seq.{sets, take_all, length-sets}
+use lib.ListN.{length, length-append}
+use lib.Seq.{sets, length-sets}
 use Rattle.bits.proofs.Lists.{sets-append, sets-out}
 use Rattle.text.specs.Text.{Writes}
 
@@ -34,10 +33,3 @@ module _ {t u l l₁ l₂ : List ℕ} {at k m : ℕ} (a : Writes t l at l₁ k) 
     bytes = b.bytes ∙ same ∙ rw (a.bytes, sets-append);
     place = omega (arith, a.place, b.place, size, length-append t u);
   }
-
--- the first n, where there are so many
-pub take-least : (n : ℕ) (l : List ℕ) → take (min n (length l)) l ≡ take n l
-take-least n l = elim (dec_le n (length l)) [
-  | yes h ↦ ap (λ (k : ℕ). take k l) (min-eq_left h)
-  | no h ↦ take_all (min n (length l)) l (omega arith) ∙ sym (take_all n l (omega arith))
-]

@@ -1,19 +1,16 @@
 -- Document 01, "Host frames", lines of `tagrun`: numbers and bytes as ASCII text, and what writing a text leaves. Assumes nothing.
-use Rattle.std.specs.Prelude.{cond, List, [], ◌∷◌, ◌++◌, ◌≡◌, ℕ, zero, suc, ◌+◌, ◌-◌, ◌/◌, ◌%◌, min, ltb, eqb, length, take}
+use Rattle.std.specs.Prelude.{cond, List, [], ◌∷◌, ◌++◌, ◌≡◌, ℕ, ◌+◌, ◌-◌, ◌/◌, ◌%◌, min, ltb, eqb, length, take, map}
+use Rattle.std.specs.List.{flat_map}
+use Rattle.std.specs.Int.Digits.{digits_of}
 use Rattle.std.proofs.lemmas.List.Edits.{sets}
 
 -- a digit below 16: `0` to `9`, then `A` to `F`
 abbrev pub digit : ℕ → ℕ
 digit d = cond (ltb d 10) (48 + d) (55 + d)
 
--- decimal digits, the highest first; at most `more` stand before the last
-unfoldable pub digits_of : ℕ → ℕ → List ℕ
-digits_of zero n = digit n ∷ []
-digits_of (suc more) n = cond (ltb n 10) (digit n ∷ []) (digits_of more (n / 10) ++ (digit (n % 10) ∷ []))
-
--- a number in decimal, with no zero in front: no more than n digits stand before the last of n
+-- a number in decimal, with no zero in front: 0 itself has its one digit
 unfoldable pub decimal_of : ℕ → List ℕ
-decimal_of n = digits_of n n
+decimal_of n = cond (eqb n 0) (digit 0 ∷ []) (map digit (digits_of 10 n))
 
 -- a byte in two hexadecimal digits
 abbrev pub hex_byte : ℕ → List ℕ
@@ -21,8 +18,7 @@ hex_byte b = digit (b / 16) ∷ digit (b % 16) ∷ []
 
 -- bytes, one after the other
 unfoldable pub hex_of : List ℕ → List ℕ
-hex_of [] = []
-hex_of (b ∷ bs) = hex_byte b ++ hex_of bs
+hex_of bs = flat_map hex_byte bs
 
 -- a number, and the space behind it
 unfoldable pub spaced_of : ℕ → List ℕ

@@ -2,7 +2,7 @@
 // public function has a `requires`: what would stand past the buffer's end is dropped.
 #![tactic(auto)]
 
-ghost use Rattle.std.specs.Prelude.{◌≡◌, [], ◌∷◌, ◌<◌, min, take};
+ghost use Rattle.std.specs.Prelude.{◌≡◌, [], ◌∷◌, ◌<◌, take, replicate};
 ghost use Rattle.text.specs.Text.{Writes, decimal_of, hex_of, hex_byte, spaced_of, reply_of};
 ghost use Rattle.text.specs.Text.{digit as Text·digit};
 
@@ -11,8 +11,8 @@ pub fn put(out: &mut [u8], at: usize, text: &[u8]) -> usize
     ensures { Writes text.now out.old at out.new result }
 {
     let mut next = at;
-    for i in 0..text.len() {
-        next = byte(out, next, text[i]);
+    for &b in text {
+        next = byte(out, next, b);
     }
     next
 }
@@ -23,10 +23,10 @@ pub fn decimal(out: &mut [u8], at: usize, n: u64) -> usize
     ensures { Writes (decimal_of n) out.old at out.new result }
 {
     if n < 10 {
-        return byte(out, at, digit(n));
+        return byte(out, at, digit(n as u8));
     }
     let next = decimal(out, at, n / 10);
-    byte(out, next, digit(n % 10))
+    byte(out, next, digit((n % 10) as u8))
 }
 
 // The first `n` bytes, in two hexadecimal digits each, capitals.
@@ -34,8 +34,8 @@ pub fn hex(out: &mut [u8], at: usize, bytes: &[u8], n: usize) -> usize
     ensures { Writes (hex_of (take n bytes.now)) out.old at out.new result }
 {
     let mut next = at;
-    for i in 0..least(n, bytes.len()) {
-        next = pair(out, next, bytes[i]);
+    for &b in &bytes[..n.min(bytes.len())] {
+        next = pair(out, next, b);
     }
     next
 }
@@ -45,30 +45,31 @@ pub fn spaced(out: &mut [u8], at: usize, n: u64) -> usize
     ensures { Writes (spaced_of n) out.old at out.new result }
 {
     let next = decimal(out, at, n);
-    byte(out, next, 32)
+    byte(out, next, b' ')
 }
 
 // A reply's `count` bits in whole bytes, or `-` where it has none.
+#[tactic(auto, unfolding(crate::specs::Text::reply_of))]
 pub fn reply(out: &mut [u8], at: usize, bytes: &[u8], count: usize) -> usize
     ensures { Writes (reply_of count bytes.now) out.old at out.new result }
 {
     if count == 0 {
-        return byte(out, at, 45);
+        return byte(out, at, b'-');
     }
-    hex(out, at, bytes, (count - 1) / 8 + 1)
+    hex(out, at, bytes, count.div_ceil(8))
 }
 
 fn pair(out: &mut [u8], at: usize, b: u8) -> usize
     ensures { Writes (hex_byte b) out.old at out.new result }
 {
-    let n = b as u64;
-    let next = byte(out, at, digit(n / 16));
-    byte(out, next, digit(n % 16))
+    let next = byte(out, at, digit(b / 16));
+    byte(out, next, digit(b % 16))
 }
 
 fn byte(out: &mut [u8], at: usize, b: u8) -> usize
     ensures { Writes (b ∷ []) out.old at out.new result }
 {
+    // An index, and not `get_mut`: after it a proof knows no byte of the slice.
     if at < out.len() {
         out[at] = b;
         return at + 1;
@@ -76,19 +77,62 @@ fn byte(out: &mut [u8], at: usize, b: u8) -> usize
     at
 }
 
-fn digit(d: u64) -> u8
+fn digit(d: u8) -> u8
     requires { d < 16 }
     ensures { result ≡ Text·digit d }
 {
-    if d < 10 {
-        (48 + d) as u8
-    } else {
-        (55 + d) as u8
+    match d {
+        0..=9 => b'0' + d,
+        _ => b'A' + (d - 10),
     }
 }
 
-fn least(a: usize, b: usize) -> usize
-    ensures { result ≡ min a b }
-{
-    if a < b { a } else { b }
+// A line's text, and the place behind what is written of it.
+#[derive(Drop)]
+pub struct Line<const N: usize> {
+    pub bytes: [u8; N],
+    pub at: usize,
+}
+
+// Each method but `new` writes what the function of its name does. They take the line by `&mut`: by value each would copy it.
+impl<const N: usize> Line<N> {
+    // A line with no text.
+    pub fn new() -> Self
+        ensures { result ≡ record { bytes = replicate N 0; at = 0 } }
+    {
+        Line {
+            bytes: [0; N],
+            at: 0,
+        }
+    }
+
+    pub fn put(&mut self, text: &[u8])
+        ensures { Writes text.now self.old.bytes self.old.at self.new.bytes self.new.at }
+    {
+        self.at = put(&mut self.bytes, self.at, text);
+    }
+
+    pub fn decimal(&mut self, n: u64)
+        ensures { Writes (decimal_of n) self.old.bytes self.old.at self.new.bytes self.new.at }
+    {
+        self.at = decimal(&mut self.bytes, self.at, n);
+    }
+
+    pub fn hex(&mut self, bytes: &[u8], n: usize)
+        ensures { Writes (hex_of (take n bytes.now)) self.old.bytes self.old.at self.new.bytes self.new.at }
+    {
+        self.at = hex(&mut self.bytes, self.at, bytes, n);
+    }
+
+    pub fn spaced(&mut self, n: u64)
+        ensures { Writes (spaced_of n) self.old.bytes self.old.at self.new.bytes self.new.at }
+    {
+        self.at = spaced(&mut self.bytes, self.at, n);
+    }
+
+    pub fn reply(&mut self, bytes: &[u8], count: usize)
+        ensures { Writes (reply_of count bytes.now) self.old.bytes self.old.at self.new.bytes self.new.at }
+    {
+        self.at = reply(&mut self.bytes, self.at, bytes, count);
+    }
 }

@@ -1,17 +1,15 @@
-use native.Mathlib.Numerals.{add-one}
-use lib.Seq.{take-suc}
-use borrow.Author.Rules.{rules}
-use Rattle.text.specs.Text.{hex_of}
-use Rattle.text.proofs.Digits.{hex_snoc}
+use Rattle.std.proofs.Common.{rules, [], take}
+use Rattle.std.proofs.lemmas.List.{take_more, flat_map_more}
+use Rattle.text.specs.Text.{hex_byte, hex_of}
 use Rattle.text.proofs.Writing.{empty, behind}
 use Rattle.text.proofs.hex.Goals as goal
 
-pub loop-i-init : goal.loop-i-init
+pub loop-b-init : goal.loop-b-init
 unfolding hex_of
-loop-i-init c = (search rules, empty _ _)
+loop-b-init c = empty _ _
 
-pub loop-i-preserved : goal.loop-i-preserved
-loop-i-preserved c =
-    let l = c.loop-i in
-    let bytes = c.args.bytes.now in
-    (search rules, rw (add-one l.i, take-suc bytes l.i 0 (search rules), hex_snoc) (behind l.invariant.1 c.pair-next.ensures))
+pub loop-b-preserved : goal.loop-b-preserved
+unfolding hex_of
+loop-b-preserved c =
+    let shown = take c.min.result c.args.bytes.now in
+    rw (take_more shown c.loop-b.b-index 0 (search rules), ← flat_map_more hex_byte []) (behind c.loop-b.invariant c.pair-next.ensures)

@@ -1,11 +1,7 @@
-use native.Mathlib.Numerals.{add-one}
-use lib.Seq.{take-suc}
-use borrow.Author.Rules.{rules}
+use Rattle.std.proofs.Common.{rules}
+use Rattle.std.proofs.lemmas.List.{take_more}
 use Rattle.text.proofs.Writing.{behind}
 use Rattle.text.proofs.put.Goals as goal
 
-pub loop-i-preserved : goal.loop-i-preserved
-loop-i-preserved c =
-    let l = c.loop-i in
-    let text = c.args.text.now in
-    (search rules, rw (add-one l.i, take-suc text l.i 0 (search rules)) (behind l.invariant.1 c.byte-next.ensures))
+pub loop-b-preserved : goal.loop-b-preserved
+loop-b-preserved c = rw (take_more c.args.text.now c.loop-b.b-index 0 (search rules)) (behind c.loop-b.invariant c.byte-next.ensures)

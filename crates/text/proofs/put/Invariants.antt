@@ -1,8 +1,7 @@
--- `put` meets its contract. The invariant: the first i bytes are written. Assumes nothing.
-use Prim.Native.Nat.{◌≤◌}
+-- `put` meets its contract. The invariant: the bytes so far are written. Assumes nothing.
 use lib.ListN.{take}
 use Rattle.text.specs.Text.{Writes}
 use Rattle.text.proofs.put.Given as goal
 
-abbrev pub invariant-loop-i : goal.invariant-loop-i
-invariant-loop-i l = (l.i ≤ l.i-end) × Writes (take l.i l.text) l.initial.out l.at l.out l.next
+abbrev pub invariant-loop-b : goal.invariant-loop-b
+invariant-loop-b l = Writes (take l.b-index l.text) l.initial.out l.at l.out l.next
