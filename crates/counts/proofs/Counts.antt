@@ -90,6 +90,9 @@ pub count_higher : (s : List ℕ) (at most : ℕ) → at < length s → group �
     → count_at s at most ≡ joined most (get_or s at 0 - group) (count_at s (at + 1) (most / group))
 count_higher s at most h k l = rw (count-step s at most h) (simp (le-ltb _ _ k, le-ltb _ _ l))
 
+-- those four are all that reading a count does
+pub ruleset count_steps = (count_past, count_last, count_over, count_higher)
+
 -- a second count byte with its high bit set is 21, where the limit has two groups
 pub second_high : (at most b d : ℕ) (rest : List ℕ) → group ≤ b → group ≤ d → most < group * group
     → count_from at most (b ∷ d ∷ rest) ≡ Err Count

@@ -48,7 +48,7 @@ impl From<Refusal> for u8 {
 }
 
 // The count that begins at `at` and is at most `most`.
-#[tactic(auto, using(crate::proofs::Counts::count_past, crate::proofs::Counts::count_last, crate::proofs::Counts::count_over, crate::proofs::Counts::count_higher))]
+#[tactic(auto, using(crate::proofs::Counts::count_steps))]
 pub fn read(s: &[u8], at: usize, most: usize) -> Result<Counted, Refusal>
     ensures { result ≡ count_at s.now at most }
 {
