@@ -1,8 +1,9 @@
 -- `read` meets its contract. Assumes nothing.
-use Prim.Native.Nat.{◌+◌, ◌/◌}
+use Prim.Native.Nat.{◌+◌, ◌/◌, ◌<◌}
 use mathlib.Core.Path.{◌≡◌, sym}
 use native.Mathlib.Omega.{arith}
-use lib.ListN.{get_or}
+use lib.ListN.{length, get_or}
+use Rattle.std.proofs.Common.{rules}
 use Rattle.std.proofs.lemmas.Grind.{common_steps}
 use Rattle.std.proofs.lemmas.Result.{err_from_is_err_and}
 use Rattle.counts.specs.Count.{joined}
@@ -18,5 +19,8 @@ join-requires t c =
 pub returns-in_err-high : goal.returns-in_err-high
 unfolding joined
 returns-in_err-high t c =
+    let a = c.args in
     let p = err_from_is_err_and c.from_residual.result c.from_residual.ensures.1 in
-    rw (p.1, p.2) (grind (arith, common_steps, count_higher, c.in_err-high.ensures))
+    let inside : a.at < length a.s.now = search rules in
+    let byte : c.from-group.result ≡ get_or a.s.now a.at 0 = grind (arith, common_steps) in
+    rw (p.1, p.2, count_higher a.s.now a.at a.most inside (omega arith) (omega arith), ← c.in_err-high.ensures)
