@@ -1,10 +1,11 @@
 -- What a call over lent bytes gives (include/kusarehyon.h). Assumes nothing.
-use Rattle.std.specs.Prelude.{Bool, cond, not, List, [], ◌∷◌, ◌≡◌, ℕ, eqb, length}
+use Rattle.std.specs.Prelude as Std
+use Rattle.std.specs.Prelude.{Bool, cond, not, List, [], ◌∷◌, ◌≡◌, ℕ, Ok, Err, eqb, length}
 use Rattle.bits.specs.Bytes.{bits_of_bytes}
 use Rattle.bits.specs.Area.{shown}
 use Rattle.book.specs.Book as Book
-use Rattle.frames.specs.declared.Scanned.{Scanned}
-use Rattle.frames.specs.declared.Written.{Written}
+use Rattle.frames.specs.declared.Frame.{Frame}
+use Rattle.counts.specs.declared.Refusal.{Refusal}
 use Rattle.counts.specs.Refusal as Counts
 use Rattle.rules.specs.declared.Answer.TheVariants.{Done, BadBook, SmallBuffer, UnknownKey, BadState}
 use Rattle.rules.specs.Answers.{number_of}
@@ -125,11 +126,11 @@ find_called book keyid room =
 -- ---- host frames: answer, kind, count, start, end; and answer, next place
 
 -- "Refused with 20 to 23, and then the four numbers are 0"
-unfoldable pub scanned_numbers : Scanned → List ℕ
-scanned_numbers (Scanned.Refused why) = Counts.number_of why ∷ 0 ∷ 0 ∷ 0 ∷ 0 ∷ []
-scanned_numbers (Scanned.Frame kind count start end) = 0 ∷ kind ∷ count ∷ start ∷ end ∷ []
+unfoldable pub scanned_numbers : Std.Result Frame Refusal → List ℕ
+scanned_numbers (Err why) = Counts.number_of why ∷ 0 ∷ 0 ∷ 0 ∷ 0 ∷ []
+scanned_numbers (Ok frame) = 0 ∷ frame.kind ∷ frame.count ∷ frame.start ∷ frame.end ∷ []
 
 -- "Refused with 20 to 24: then out is as it was, and *next is 0"
-unfoldable pub written_numbers : Written → List ℕ
-written_numbers (Written.Refused why) = Counts.number_of why ∷ 0 ∷ []
-written_numbers (Written.Done next) = 0 ∷ next ∷ []
+unfoldable pub written_numbers : Std.Result ℕ Refusal → List ℕ
+written_numbers (Err why) = Counts.number_of why ∷ 0 ∷ []
+written_numbers (Ok next) = 0 ∷ next ∷ []

@@ -10,7 +10,6 @@ ghost use Rattle.rules.specs.Answers.{number_of};
 ghost use Rattle.blocks.specs.Blocks.{stored_in, tag_bytes, tag_block, reader_bytes, reader_block};
 ghost use Rattle.capi.specs.Calls.{Leaves, tag_reset_called, command_called, response_called, close_answer, closed_block, error_type_called, reader_reset_called, begin_called, replied_called, send_called, receive_called, find_called, scanned_numbers, written_numbers};
 
-use frames::{Scanned, Written};
 use rules::Answer;
 use suite::{Reader, ReaderStep, Step, Tag};
 
@@ -229,6 +228,7 @@ pub fn kusarehyon_book_find(book: &[u8], keyid: u8, reply: &mut [u8], bits: &mut
 
 // ---- host frames
 
+#[tactic(auto, unfolding(crate::specs::Calls::scanned_numbers))]
 pub fn kusarehyon_frame_scan(
     s: &[u8],
     kind: &mut u8,
@@ -239,28 +239,24 @@ pub fn kusarehyon_frame_scan(
     ensures { result ∷ kind.new ∷ count.new ∷ start.new ∷ end.new ∷ [] ≡ scanned_numbers (scan_of s.now) }
 {
     match frames::scan(s) {
-        Scanned::Refused(why) => {
+        Err(why) => {
             *kind = 0;
             *count = 0;
             *start = 0;
             *end = 0;
-            why.number()
+            u8::from(why)
         }
-        Scanned::Frame {
-            kind: k,
-            count: c,
-            start: a,
-            end: b,
-        } => {
-            *kind = k;
-            *count = c;
-            *start = a;
-            *end = b;
+        Ok(frame) => {
+            *kind = frame.kind;
+            *count = frame.count;
+            *start = frame.start;
+            *end = frame.end;
             0
         }
     }
 }
 
+#[tactic(auto, unfolding(crate::specs::Calls::written_numbers))]
 pub fn kusarehyon_frame_write(
     out: &mut [u8],
     at: usize,
@@ -273,11 +269,11 @@ pub fn kusarehyon_frame_write(
     ensures out_after { out.new ≡ out_after out.old at kind count payload.now }
 {
     match frames::write(out, at, kind, count, payload) {
-        Written::Refused(why) => {
+        Err(why) => {
             *next = 0;
-            why.number()
+            u8::from(why)
         }
-        Written::Done(n) => {
+        Ok(n) => {
             *next = n;
             0
         }

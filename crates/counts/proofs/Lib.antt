@@ -1,5 +1,4 @@
 -- The laws of `counts`. Other crates cite those marked `pub`.
-pub mod Cases
 pub mod Counts
 pub mod Tails
 pub mod Payloads

@@ -16,9 +16,9 @@ use Rattle.bits.proofs.Numbers.{length-bits_of, num_of-bits_of, bits_of-num_of, 
 use Rattle.bits.specs.Bits.{bits_of, num_of}
 use Rattle.bits.specs.Bytes.{bits_of_bytes, bytes_of}
 use Rattle.counts.specs.Payload.{size_of, unused_of, check_of}
-use Rattle.counts.specs.declared.Checked.TheVariants.{Refused, Fine}
-use Rattle.counts.specs.declared.Checked.{Checked}
-use Rattle.counts.proofs.Cases.{cond_has}
+use Rattle.std.specs.Prelude.{Result, Ok, OnOk}
+use Rattle.counts.specs.declared.Refusal.{Refusal}
+use Rattle.std.proofs.lemmas.Bool.{cond_both}
 
 drop-bits_of : (w j n : ℕ) → drop j (bits_of w n) ≡ bits_of (w - j) n
 unfolding bits_of
@@ -99,25 +99,21 @@ pub record Fit (limit count : ℕ) (payload : List ℕ) : Type 0 where
   pub long : size_of count ≤ length payload
   pub zeros : unused_of count payload ≡ 0
 
-abbrev FitIf : ℕ → ℕ → List ℕ → Checked → Type 0
-FitIf limit count payload (Refused why) = Unit {0}
-FitIf limit count payload Fine = Fit limit count payload
-
-pub fit_of : (limit count : ℕ) (payload : List ℕ) → check_of limit count payload ≡ Fine → Fit limit count payload
+pub fit_of : (limit count : ℕ) (payload : List ℕ) → check_of limit count payload ≡ Ok tt → Fit limit count payload
 unfolding check_of
 fit_of limit count payload e = subst P e told
   where
-    P : Checked → Type 0
-    P = FitIf limit count payload
+    P : Result (Unit {0}) Refusal → Type 0
+    P r = OnOk r (Fit limit count payload)
 
     told : P (check_of limit count payload)
     told =
-        cond_has P (ltb limit count) (λ _. tt)
-        (λ c. cond_has P (ltb (length payload) (size_of count)) (λ _. tt)
-        (λ l. cond_has P (eqb (unused_of count payload) 0)
+        cond_both (ltb limit count) _ _ P (λ _. tt)
+        (λ c. cond_both (ltb (length payload) (size_of count)) _ _ P (λ _. tt)
+        (λ l. cond_both (eqb (unused_of count payload) 0) _ _ P
         (λ z. record { small = ltb-false _ _ c; long = ltb-false _ _ l; zeros = eqb-true _ _ z }) (λ _. tt)))
 
-pub fine_of : (limit count : ℕ) (payload : List ℕ) → Fit limit count payload → check_of limit count payload ≡ Fine
+pub fine_of : (limit count : ℕ) (payload : List ℕ) → Fit limit count payload → check_of limit count payload ≡ Ok tt
 unfolding check_of
 fine_of limit count payload f = simp (le-ltb _ _ f.small, le-ltb _ _ f.long, f.zeros)
 

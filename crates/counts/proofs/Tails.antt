@@ -5,7 +5,8 @@ use mathlib.Core.Path.{◌≡◌, refl, ap, sym, ◌∙◌}
 use native.Mathlib.Nat.{add-zero, add-suc}
 use native.Mathlib.Omega.{arith}
 use lib.ListN.{length, take, drop, set, length-drop, take-append-drop, drop_of_length-le}
-use lib.Seq.{sets, take_all, take-set-le, drop-set-add}
+use lib.Seq.{sets, take-set-le, drop-set-add}
+use Rattle.std.proofs.lemmas.Slice.{between_to_end}
 use borrow.Rule.Slice.PartMut.{mid_of, put_mid}
 
 take-sets : (n : ℕ) (l : List ℕ) (i : ℕ) (ys : List ℕ) → n ≤ i → take n (sets l i ys) ≡ take n l
@@ -22,10 +23,6 @@ drop-sets n l i (y ∷ ys) =
 pub drop-run : (l : List ℕ) (at : ℕ) (ys : List ℕ) → drop at (sets l at ys) ≡ sets (drop at l) 0 ys
 drop-run l at ys = ap (λ (k : ℕ). drop at (sets l k ys)) (sym (add-zero at)) ∙ drop-sets at l 0 ys
 
--- a tail has all that is left
-pub tail_all : (xs : List ℕ) (a : ℕ) → take (length xs - a) (drop a xs) ≡ drop a xs
-tail_all xs a = take_all (length xs - a) (drop a xs) (rw length-drop (omega arith))
-
 tail_none : (xs : List ℕ) (a : ℕ) → drop (length xs - a) (drop a xs) ≡ []
 tail_none xs a =
     let size : length (drop a xs) ≤ length xs - a = rw length-drop (omega arith) in
@@ -34,5 +31,6 @@ tail_none xs a =
 -- a run of stores in a lent tail is one in the whole
 pub lent : (xs ys l : List ℕ) (a : ℕ) → l ≡ sets (mid_of a (length xs - a) xs) 0 ys → put_mid a (length xs - a) xs l ≡ sets xs a ys
 lent xs ys l a q =
-    rw (tail_none xs a, append-nil, q, tail_all xs a, ← drop-run xs a ys, ← take-sets a xs a ys (omega arith))
+    let all : take (length xs - a) (drop a xs) ≡ drop a xs = between_to_end xs a (length xs) (omega arith) in
+    rw (tail_none xs a, append-nil, q, all, ← drop-run xs a ys, ← take-sets a xs a ys (omega arith))
     (take-append-drop a (sets xs a ys))

@@ -1,9 +1,8 @@
 -- A payload of so many bits, in bytes (document 01, "Host frames"), for any limit. Assumes nothing.
-use Rattle.std.specs.Prelude.{ℕ, ◌+◌, ◌/◌, cond, List, eqb, ltb, length, take, drop}
+use Rattle.std.specs.Prelude.{ℕ, ◌+◌, ◌/◌, cond, List, Result, Ok, Err, eqb, ltb, length, take, drop}
 use Rattle.bits.specs.Bits.{num_of}
 use Rattle.bits.specs.Bytes.{bits_of_bytes}
-use Rattle.counts.specs.declared.Checked.TheVariants.{Refused, Fine}
-use Rattle.counts.specs.declared.Checked.{Checked}
+use Rattle.counts.specs.declared.Refusal.{Refusal}
 use Rattle.counts.specs.declared.Refusal.TheVariants.{Short, Count, Unused}
 
 -- the bytes that hold so many bits
@@ -16,8 +15,8 @@ unused_of count payload = num_of (drop count (bits_of_bytes (take (size_of count
 
 -- what reading and writing refuse alike: 21 count over its limit; 20 the slice ends too soon, or the payload is shorter than its
 -- count; 22 unused bits not zero
-unfoldable pub check_of : ℕ → ℕ → List ℕ → Checked
+unfoldable pub check_of : ℕ → ℕ → List ℕ → Result (Unit {0}) Refusal
 check_of limit count payload =
-    cond (ltb limit count) (Refused Count)
-    (cond (ltb (length payload) (size_of count)) (Refused Short)
-    (cond (eqb (unused_of count payload) 0) Fine (Refused Unused)))
+    cond (ltb limit count) (Err Count)
+    (cond (ltb (length payload) (size_of count)) (Err Short)
+    (cond (eqb (unused_of count payload) 0) (Ok tt) (Err Unused)))

@@ -4,7 +4,7 @@
 // answer.
 #![tactic(auto)]
 
-ghost use Rattle.std.specs.Prelude.{◌≡◌, ◌/◌, ◌≤◌, ◌<◌, length};
+ghost use Rattle.std.specs.Prelude.{◌≡◌, ◌/◌, ◌≤◌, ◌<◌, Ok, length};
 ghost use Rattle.std.proofs.lemmas.List.Edits.{sets};
 ghost use Rattle.counts.specs.Refusal.{number_of};
 ghost use Rattle.counts.specs.Count.{group, up_to, joined, count_at, count_bytes};
@@ -15,95 +15,83 @@ const GROUP: usize = 128;
 
 // Why a frame, or anything else that has counts, is not read or not written: one list for every format. A count and its
 // payload are refused by the first three alone.
-#[derive(Clone, Copy)]
+#[derive(Clone, Copy, Debug, PartialEq, Eq)]
 pub enum Refusal {
     // The slice ends too soon; at a write, the payload is shorter than its count.
-    Short,
+    Short = 20,
     // The count is not shortest, or over its limit.
-    Count,
+    Count = 21,
     // The unused bits are not zero.
-    Unused,
+    Unused = 22,
     // The kind is above 6.
-    Kind,
+    Kind = 23,
     // A write has no room from its place.
-    Room,
+    Room = 24,
 }
 
-// What reading a count finds.
-#[derive(Clone, Copy)]
-pub enum Counted {
-    Refused(Refusal),
-    // The count, and the place behind it.
-    Is { count: usize, next: usize },
+// A count that is read, and the place behind it.
+#[derive(Clone, Copy, Debug, PartialEq, Eq)]
+pub struct Counted {
+    pub count: usize,
+    pub next: usize,
 }
 
-// What the rules on a count and its payload find.
-#[derive(Clone, Copy)]
-pub enum Checked {
-    Refused(Refusal),
-    Fine,
-}
+impl From<Refusal> for u8 {
+    ghost from_gives = { λ refusal number. number ≡ number_of refusal };
 
-impl Refusal {
     // The number that document 01 gives it.
-    pub fn number(self) -> u8
-        ensures { result ≡ number_of self }
+    fn from(refusal: Refusal) -> u8
+        ensures { result ≡ number_of refusal }
     {
-        match self {
-            Refusal::Short => 20,
-            Refusal::Count => 21,
-            Refusal::Unused => 22,
-            Refusal::Kind => 23,
-            Refusal::Room => 24,
-        }
+        refusal as u8
     }
 }
 
 // The count that begins at `at` and is at most `most`.
-#[tactic(auto, using(crate::proofs::Counts::count_over))]
-pub fn read(s: &[u8], at: usize, most: usize) -> Counted
+#[tactic(auto, using(crate::proofs::Counts::count_steps))]
+pub fn read(s: &[u8], at: usize, most: usize) -> Result<Counted, Refusal>
     ensures { result ≡ count_at s.now at most }
 {
-    if s.len() <= at {
-        return Counted::Refused(Refusal::Short);
-    }
-    let group = s[at] as usize;
+    let Some(&byte) = s.get(at) else {
+        return Err(Refusal::Short);
+    };
+    let group = usize::from(byte);
     if group < GROUP {
         return up_to(most, group, at + 1);
     }
     if most < GROUP {
-        return Counted::Refused(Refusal::Count);
+        return Err(Refusal::Count);
     }
-    match read(s, at + 1, most / GROUP) {
-        Counted::Refused(why) => Counted::Refused(why),
-        Counted::Is { count, next } => join(most, group - GROUP, count, next),
-    }
+    let high = read(s, at + 1, most / GROUP)?;
+    join(most, group - GROUP, high)
 }
 
 // The rules on a count and its payload that reading and writing share, in document 01's order.
-pub fn check(limit: usize, count: usize, payload: &[u8]) -> Checked
+#[tactic(auto, unfolding(crate::specs::Payload::check_of))]
+pub fn check(limit: usize, count: usize, payload: &[u8]) -> Result<(), Refusal>
     ensures { result ≡ check_of limit count payload.now }
 {
     if limit < count {
-        return Checked::Refused(Refusal::Count);
+        return Err(Refusal::Count);
     }
     if payload.len() < size(count) {
-        return Checked::Refused(Refusal::Short);
+        return Err(Refusal::Short);
     }
     if unused(payload, count) != 0 {
-        return Checked::Refused(Refusal::Unused);
+        return Err(Refusal::Unused);
     }
-    Checked::Fine
+    Ok(())
 }
 
-// How many bytes hold `count` bits. The sum is taken of the rest alone, so that it cannot wrap.
+// How many bytes hold `count` bits.
 pub fn size(count: usize) -> usize
     ensures { result ≡ size_of count }
 {
-    count / 8 + (count % 8 + 7) / 8
+    count.div_ceil(8)
 }
 
 // How many groups a count takes: a byte each.
+#[tactic(auto, using(crate::proofs::Counts::count_one, crate::proofs::Counts::count_more, crate::proofs::Counts::count_few))]
 pub fn groups(count: usize) -> usize
     ensures { result ≡ length (count_bytes count) }
 {
@@ -115,10 +103,11 @@ pub fn groups(count: usize) -> usize
 }
 
 // Writes a count's bytes at the front of `out`. Those that have no room there are dropped.
+#[tactic(auto, using(crate::proofs::Counts::count_one))]
 pub fn put(out: &mut [u8], count: usize)
     ensures { out.new ≡ sets out.old 0 (count_bytes count) }
 {
-    if out.len() == 0 {
+    if out.is_empty() {
         return;
     }
     if count < GROUP {
@@ -130,29 +119,30 @@ pub fn put(out: &mut [u8], count: usize)
 }
 
 // A count, refused over `most`.
-fn up_to(most: usize, count: usize, next: usize) -> Counted
+#[tactic(auto, unfolding(crate::specs::Count::up_to))]
+fn up_to(most: usize, count: usize, next: usize) -> Result<Counted, Refusal>
     ensures { result ≡ up_to most count next }
 {
     if most < count {
-        Counted::Refused(Refusal::Count)
-    } else {
-        Counted::Is { count, next }
+        return Err(Refusal::Count);
     }
+    Ok(Counted { count, next })
 }
 
 // The count whose lowest group is `low` and whose other groups spell `high`: not in its shortest form where that is 0.
 #[tactic(auto, unfolding(crate::specs::Count::joined))]
-fn join(most: usize, low: usize, high: usize, next: usize) -> Counted
-    requires { (low < group) × (high ≤ most / group) }
-    ensures { result ≡ joined most low (Counted.Is high next) }
+fn join(most: usize, low: usize, high: Counted) -> Result<Counted, Refusal>
+    requires { (low < group) × (high.count ≤ most / group) }
+    ensures { result ≡ joined most low (Ok high) }
 {
-    if high == 0 {
-        return Counted::Refused(Refusal::Count);
+    if high.count == 0 {
+        return Err(Refusal::Count);
     }
-    up_to(most, low + high * GROUP, next)
+    up_to(most, low + high.count * GROUP, high.next)
 }
 
 // The number in the unused bits of a payload, the lowest of its last byte. Where there are none, it is a remainder by 1.
+#[tactic(auto, using(crate::proofs::Payloads::shl_one, crate::proofs::Payloads::unused_is))]
 fn unused(payload: &[u8], count: usize) -> u8
     ensures { result ≡ unused_of count payload.now }
 {

@@ -131,7 +131,7 @@ module _ (R : RattleType) (laws : Laws R) (print-ghosts : Print.Ghosts R.Denot) 
 
 -- ---- counts
 
-pub refusal_number : Determines CountsContracts.Refusal.number.ended Counts.Refusal.number.Reads.Post
+pub refusal_number : Determines CountsContracts.U8FromRefusal.from.ended Counts.U8FromRefusal.from.Reads.Post
 refusal_number κs a x y p q = part p q refl
 
 pub count-read : Determines CountsContracts.read.ended Counts.read.Reads.Post

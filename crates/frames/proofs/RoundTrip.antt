@@ -14,25 +14,24 @@ use Rattle.bits.proofs.Bytes.{Octets}
 use Rattle.bits.specs.Bytes.{bits_of_bytes}
 use Rattle.counts.specs.Count.{count_bytes}
 use Rattle.counts.specs.Payload.{size_of, unused_of, check_of}
-use Rattle.counts.proofs.Cases.{cond_has}
+use Rattle.std.specs.Prelude.{Ok}
+use Rattle.std.proofs.lemmas.Bool.{cond_both}
 use Rattle.counts.proofs.Counts.{count_back}
 use Rattle.counts.proofs.Payloads.{Fit, fine_of, fit_front, front_bits, same-payload}
 use Rattle.counts.proofs.Tails.{drop-run}
 use Rattle.frames.specs.Frame.{reset, most_bits, limit_of, framed, after_count, scan_of, part_of, payload_of, frame_of, placed, written_of, changed, out_after}
-use Rattle.frames.specs.declared.Scanned.TheVariants.{Frame}
-use Rattle.frames.specs.declared.Written.TheVariants.{Done}
 use Rattle.frames.proofs.Answers.{FrameRead, frame_read, frame_within, frame_length, FrameWritten, frame_written}
 
 limit-le : (kind : ℕ) → limit_of kind ≤ most_bits
 unfolding limit_of
-limit-le kind = cond_has (λ (n : ℕ). n ≤ most_bits) (eqb kind reset) (λ _. omega arith) (λ _. omega arith)
+limit-le kind = cond_both (eqb kind reset) _ _ (λ (n : ℕ). n ≤ most_bits) (λ _. omega arith) (λ _. omega arith)
 
 -- ---- what is written reads back the same
 
 module _ (kind count : ℕ) (p rest : List ℕ) (low : kind ≤ reset) (f : Fit (limit_of kind) count p) where
   -- a frame, whatever follows it
   pub scan_back : scan_of (frame_of kind count p ++ rest)
-      ≡ Frame kind count (length (kind ∷ count_bytes count)) (length (frame_of kind count p))
+      ≡ Ok (record { kind = kind; count = count; start = length (kind ∷ count_bytes count); end = length (frame_of kind count p) })
   unfolding scan_of after_count framed frame_of
   scan_back =
       let head : List ℕ = kind ∷ count_bytes count in
@@ -41,7 +40,7 @@ module _ (kind count : ℕ) (p rest : List ℕ) (low : kind ≤ reset) (f : Fit 
       let read = count_back (head ++ body) 1 most_bits count body refl most in
       let behind = ap (check_of (limit_of kind) count) (drop-append_seam (count_bytes count) body) ∙ fine_of (limit_of kind) count body (fit_front (limit_of kind) count p rest f) in
       rw (append_assoc head (take (size_of count) p) rest, frame_length kind count p f.long)
-      (simp (eqb-suc-zero, le-ltb _ _ low, read, one-add) (ap (framed kind count (length head)) behind))
+      (simp (eqb-suc-zero, le-ltb _ _ low, read, one-add) (ap (framed kind (record { count = count; next = length head })) behind))
 
   -- and its payload
   pub payload_back : payload_of (frame_of kind count p ++ rest) ≡ take (size_of count) p
@@ -55,7 +54,7 @@ module _ (kind count : ℕ) (p rest : List ℕ) (low : kind ≤ reset) (f : Fit 
 
 -- from the place of a buffer where it was written: kind, count, bytes and bits
 module _ (out : List ℕ) (at kind count : ℕ) (p : List ℕ) (next : ℕ)
-    (done : written_of (length out) at kind count p ≡ Done next) where
+    (done : written_of (length out) at kind count p ≡ Ok next) where
   written : FrameWritten (length out) at kind count p next
   written = frame_written (length out) at kind count p next done
 
@@ -70,7 +69,7 @@ module _ (out : List ℕ) (at kind count : ℕ) (p : List ℕ) (next : ℕ)
       rw (done, drop-run out at frame, sets-eq frame (drop at out) 0 room, zero-add)
 
   pub scan_written : scan_of (drop at (out_after out at kind count p))
-      ≡ Frame kind count (length (kind ∷ count_bytes count)) (next - at)
+      ≡ Ok (record { kind = kind; count = count; start = length (kind ∷ count_bytes count); end = next - at })
   scan_written =
       let end : length (frame_of kind count p) ≡ next - at = omega (arith, written.ends) in
       rw (stands, scan_back kind count p rest written.low written.fit, end)
@@ -92,7 +91,7 @@ same_bytes kind count p q g h lp lq zp zq e =
 
 -- ---- a frame that is read and written again gives the same bytes
 
-module _ (s : List ℕ) (kind count start end : ℕ) (b : Octets s) (frame : scan_of s ≡ Frame kind count start end) where
+module _ (s : List ℕ) (kind count start end : ℕ) (b : Octets s) (frame : scan_of s ≡ Ok (record { kind = kind; count = count; start = start; end = end })) where
   read : FrameRead s kind count start end
   read = frame_read s kind count start end b frame
 
@@ -109,7 +108,7 @@ module _ (s : List ℕ) (kind count start end : ℕ) (b : Octets s) (frame : sca
       let whole = ap (λ (l : List ℕ). take (length head + n) l) read.head ∙ take-append-add head (drop start s) n in
       rw (own, take-take n n (drop start s) (omega arith), e) (sym whole)
 
-  pub written_again : (len at : ℕ) → at + end ≤ len → written_of len at kind count (payload_of s) ≡ Done (at + end)
+  pub written_again : (len at : ℕ) → at + end ≤ len → written_of len at kind count (payload_of s) ≡ Ok (at + end)
   unfolding written_of placed
   written_again len at room =
       let f = rw append-nil at (fit_front (limit_of kind) count (drop start s) [] read.fit) in

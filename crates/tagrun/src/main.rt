@@ -4,7 +4,7 @@
 ghost use Rattle.std.specs.Prelude.{◌≤◌, length};
 
 use faces::Name;
-use frames::{Refusal, Scanned};
+use frames::Refusal;
 use std::io::Read;
 use suite::{Step, Tag};
 use text::Line;
@@ -53,23 +53,24 @@ fn read_full<R: Read>(from: &mut R, buffer: &mut [u8]) -> usize
 fn run(rt: &impl Print, input: &[u8]) {
     let mut tag = fresh();
     let mut number: u64 = 0;
-    let mut at: usize = 0;
-    while at < input.len() {
+    let mut rest = input;
+    while !rest.is_empty() {
         number += 1;
-        let rest = &input[at..];
         match frames::scan(rest) {
-            Scanned::Refused(why) => {
+            Err(why) => {
                 print_refusal(rt, number, why);
                 return;
             }
-            Scanned::Frame {
-                kind,
-                count,
-                start: _,
-                end,
-            } => {
-                tag = run_frame(rt, tag, number, kind, frames::payload(rest), count);
-                at += end;
+            Ok(frame) => {
+                tag = run_frame(
+                    rt,
+                    tag,
+                    number,
+                    frame.kind,
+                    frames::payload(rest),
+                    frame.count,
+                );
+                rest = &rest[frame.end..];
             }
         }
     }
@@ -104,7 +105,7 @@ fn run_frame(
 fn print_refusal(rt: &impl Print, number: u64, why: Refusal) {
     let mut line = Line::new();
     line.spaced(number);
-    line.decimal(why.number() as u64);
+    line.decimal(u64::from(u8::from(why)));
     print(rt, &mut line);
 }
 

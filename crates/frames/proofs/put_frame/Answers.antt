@@ -1,19 +1,17 @@
 -- `put_frame` meets its contract: a run of stores in the tail from each part's place. Assumes nothing.
 use Prim.Native.Nat.{◌+◌}
-use mathlib.Core.List.{[], ◌∷◌}
 use mathlib.Core.Path.{◌∙◌}
-use lib.ListN.{take}
+use lib.ListN.{take, set}
 use Rattle.counts.specs.Count.{count_bytes}
 use Rattle.frames.proofs.Answers.{frame_runs}
-use Rattle.frames.proofs.Runs.{three-runs}
+use Rattle.frames.proofs.Runs.{two-runs}
 use Rattle.frames.proofs.put_frame.Goals as goal
 
 pub returns : goal.returns
 returns c =
     let m = c.size in
     let a = c.args in
-    three-runs a.out.now c.put_kind.new.out c.put.new.out c.put_payload.new.out
-    (a.kind ∷ []) (count_bytes a.count) (take m.result a.payload.now)
-    a.at (a.at + 1) (a.at + 1 + c.groups.result)
-    c.put_kind.ensures c.put.ensures c.put_payload.ensures
+    two-runs (set a.out.now a.at a.kind) c.put.new.out c.put_payload.new.out
+    (count_bytes a.count) (take m.result a.payload.now)
+    (a.at + 1) (a.at + 1 + c.groups.result) c.put.ensures c.put_payload.ensures
     ∙ rw (m.ensures, c.groups.ensures) (frame_runs a.out.now a.at a.kind a.count a.payload.now)

@@ -4,36 +4,46 @@ use mathlib.Core.List.{List}
 use mathlib.Core.Path.{◌≡◌, sym}
 use native.Mathlib.Omega.{arith}
 use lib.ListN.{length, take, drop, length-drop}
-use lib.Seq.{take_all, get_or-drop}
+use lib.Seq.{get_or-drop}
+use Rattle.std.specs.Prelude.{Ok}
+use Rattle.std.proofs.lemmas.Slice.{between_to_end}
 use Rattle.bits.proofs.Bytes.{Octets}
 use Rattle.frames.specs.Frame.{scan_of}
-use Rattle.frames.specs.declared.Scanned.{Scanned}
+use Rattle.frames.specs.declared.Frame.{Frame}
 use Rattle.frames.proofs.Answers.{FrameRead, frame_read, frame_within}
 use Rattle.tagrun.proofs.run.Goals as goal
 
--- a frame that begins at a place has a byte at least, and lies inside the input
-abbrev Inside : List ℕ → ℕ → ℕ → Type 0
-Inside s at end = (0 < end) × (end ≤ length s - at)
+-- a frame has a byte at least, and lies inside what is left; and what is left behind it are bytes
+pub record Inside (s : List ℕ) (end : ℕ) : Type 0 where
+  pub some : 0 < end
+  pub within : end ≤ length s
+  pub left : take (length s - end) (drop end s) ≡ drop end s
+  pub size : length (drop end s) ≡ length s - end
+  pub bytes : Octets (drop end s)
 
-inside : (s : List ℕ) (at kind count start end : ℕ) → Octets s
-    → scan_of (take (length s - at) (drop at s)) ≡ Scanned.Frame kind count start end → Inside s at end
-inside s at kind count start end b e =
-    let all : take (length s - at) (drop at s) ≡ drop at s = take_all (length s - at) (drop at s) (rw length-drop (omega arith)) in
-    let bytes : Octets (drop at s) = λ i. rw (get_or-drop at s i 0) (b (at + i)) in
-    let r : FrameRead (drop at s) kind count start end = frame_read (drop at s) kind count start end bytes (rw all at e) in
-    (omega (arith, r.starts, r.ends), rw length-drop at (frame_within (drop at s) kind count start end r).1)
+inside : (s : List ℕ) (f : Frame) → Octets s → Ok f ≡ scan_of s → Inside s f.end
+inside s f b e =
+    let r : FrameRead s f.kind f.count f.start f.end = frame_read s f.kind f.count f.start f.end b (sym e) in
+    record {
+      some = omega (arith, r.starts, r.ends);
+      within = (frame_within s f.kind f.count f.start f.end r).1;
+      left = between_to_end s f.end (length s) (omega arith);
+      size = length-drop f.end s;
+      bytes = λ i. rw (get_or-drop f.end s i 0) (b (f.end + i));
+    }
 
-pub overflow_add-at : goal.overflow_add-at
-overflow_add-at g c =
-    let h : Inside c.args.input.now c.loop-at.at c.in-Frame.end = inside _ _ _ _ _ _ c.type_inv.input (sym c.in-Frame.ensures) in
-    omega arith
+pub slice_bounds-rest-count : goal.slice_bounds-rest-count
+slice_bounds-rest-count g c = (inside c.loop-rest.rest.now c.in-Ok.frame c.loop-rest.invariant.0 c.in-Ok.ensures).within
 
-pub loop-at-smaller : goal.loop-at-smaller
-loop-at-smaller g c =
-    let h : Inside c.args.input.now c.loop-at.at c.in-Frame.end = inside _ _ _ _ _ _ c.type_inv.input (sym c.in-Frame.ensures) in
-    omega arith
+pub slice_bounds-rest-start : goal.slice_bounds-rest-start
+slice_bounds-rest-start g c = (inside c.loop-rest.rest.now c.in-Ok.frame c.loop-rest.invariant.0 c.in-Ok.ensures).within
 
-pub loop-at-preserved : goal.loop-at-preserved
-loop-at-preserved g c =
-    let h : Inside c.args.input.now c.loop-at.at c.in-Frame.end = inside _ _ _ _ _ _ c.type_inv.input (sym c.in-Frame.ensures) in
-    (omega arith, omega arith)
+pub loop-rest-smaller : goal.loop-rest-smaller
+loop-rest-smaller g c =
+    let h = inside c.loop-rest.rest.now c.in-Ok.frame c.loop-rest.invariant.0 c.in-Ok.ensures in
+    rw (h.left) (omega (arith, h.some, h.within, h.size))
+
+pub loop-rest-preserved : goal.loop-rest-preserved
+loop-rest-preserved g c =
+    let h = inside c.loop-rest.rest.now c.in-Ok.frame c.loop-rest.invariant.0 c.in-Ok.ensures in
+    rw (h.left) (h.bytes, omega (arith, h.some, h.within, h.size))

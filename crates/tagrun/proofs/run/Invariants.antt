@@ -1,9 +1,10 @@
--- `run` is safe and ends. The invariant: the place is within the input, and no more frames than bytes are behind it.
-use Rattle.std.proofs.Common.{length, ◌-◌, ◌≤◌}
+-- `run` is safe and ends. The invariant: what is left are bytes, and each frame so far took a byte at least of the input.
+use Rattle.std.proofs.Common.{length, ◌+◌, ◌≤◌}
+use Rattle.bits.proofs.Bytes.{Octets}
 use Rattle.tagrun.proofs.run.Given as goal
 
-abbrev pub invariant-loop-at : goal.invariant-loop-at
-invariant-loop-at g l = (l.at ≤ length l.input) × (l.number ≤ l.at)
+abbrev pub invariant-loop-rest : goal.invariant-loop-rest
+invariant-loop-rest g l = Octets l.rest × (l.number + length l.rest ≤ length l.input)
 
-abbrev pub decreases-loop-at : goal.decreases-loop-at
-decreases-loop-at g l = length l.input - l.at
+abbrev pub decreases-loop-rest : goal.decreases-loop-rest
+decreases-loop-rest g l = length l.rest
