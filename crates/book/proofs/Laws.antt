@@ -6,12 +6,14 @@ use Prim.Native.Nat.{ℕ, zero, suc, ◌+◌, ◌*◌, ◌<◌}
 use native.Mathlib.Nat.{suc-add}
 use native.Mathlib.Omega.{arith}
 use native.Mathlib.Decide.{dec_le}
+use denote.Ref.{Bor}
 use lib.Dec.{ltb, eqb}
 use lib.ListN.{length, get_or, take, drop, length-take, length-drop}
 use lib.Seq.{take-take, drop-drop}
 use borrow.Author.Tests.{ltb-true, lt-ltb, le-ltb}
 use Rattle.std.specs.List.{find, AllAdjacentBelow, IsAllAdjacentAnswer}
 use Rattle.std.specs.Prelude.{Option, Some, None, is_some, option_map, unwrap_or}
+use Rattle.std.specs.Option.{option_copied}
 use Rattle.std.specs.Simd.{first_chunks}
 use Rattle.book.specs.Book.{records_of, key_ids, ids_of, rising, sound_of, place_in, known_of, key_of, found_of}
 
@@ -109,7 +111,7 @@ module _ (id : ℕ) (b : List ℕ) where
   unfolding key_of
   known_key k = rw k (simp (length-take, length-drop) (omega (arith, known_place k)))
 
-  -- there is one exactly where the KeyID is in the book, and it is the key there
+  -- one is found exactly where the KeyID is in the book, and it is the key there
   pub found-some : is_some (found_of id b) ≡ known_of id b
   unfolding found_of
   found-some = by (known_of id b)
@@ -125,3 +127,12 @@ module _ (id : ℕ) (b : List ℕ) where
       by : (k : Bool) (l : List ℕ) → unwrap_or (cond k (Some (cond k l [])) None) [] ≡ cond k l []
       by true l = refl
       by false l = refl
+
+-- ---- the same of a part of the book that is handed on
+
+module _ (o : Option (Bor (List ℕ))) where
+  pub some-copied : is_some o ≡ is_some (option_copied o)
+  some-copied = elim o as (λ o. is_some o ≡ is_some (option_copied o)) [ None ↦ refl | Some x ↦ refl ]
+
+  pub or-copied : (d : Bor (List ℕ)) → (unwrap_or o d).now ≡ unwrap_or (option_copied o) d.now
+  or-copied d = elim o as (λ o. (unwrap_or o d).now ≡ unwrap_or (option_copied o) d.now) [ None ↦ refl | Some x ↦ refl ]

@@ -1,9 +1,8 @@
 use mathlib.Core.Path.{◌≡◌, refl}
-use mathlib.Core.Bool.{Bool}
-use mathlib.Core.List.{List, [], ◌++◌, append-nil}
+use mathlib.Core.List.{[], append-nil}
 use native.Mathlib.Omega.{arith}
-use lib.ListN.{length, take, drop, length-take, drop_of_length-le}
-use Rattle.bits.specs.Bytes.{bits_of_bytes, bytes_of}
+use lib.ListN.{take, drop, length-take, drop_of_length-le}
+use Rattle.bits.specs.Bytes.{bytes_of}
 use Rattle.bits.specs.Area.{area_of, shown}
 use Rattle.bits.proofs.Area.{show_turn}
 use Rattle.bits.proofs.show.Goals as goal
