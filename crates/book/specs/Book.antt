@@ -1,5 +1,5 @@
 -- The key book (document 01, "Replies and refusals"). A book is the list of its bytes. Assumes nothing.
-use Rattle.std.specs.Prelude.{Bool, true, cond, ◌&&◌, List, [], ◌∷◌, ℕ, zero, suc, ◌+◌, ◌*◌, ◌/◌, ◌%◌, leb, ltb, eqb, length, get_or, take, drop}
+use Rattle.std.specs.Prelude.{Bool, true, cond, ◌&&◌, List, [], ◌∷◌, ℕ, zero, suc, ◌+◌, ◌*◌, ◌/◌, ◌%◌, leb, ltb, eqb, length, get_or, take, drop, Option, Some, None}
 
 -- "A book record is a KeyID and a 16-byte key"
 abbrev pub key_bytes : ℕ
@@ -48,3 +48,7 @@ known_of id b = ltb (place_in id (ids_of b)) (records_of b)
 -- the 16 bytes of the key under a KeyID: none where the KeyID is not there
 unfoldable pub key_of : ℕ → List ℕ → List ℕ
 key_of id b = cond (known_of id b) (take key_bytes (drop (record_bytes * place_in id (ids_of b) + 1) b)) []
+
+-- what is found under a KeyID: its key, where the KeyID is in the book
+unfoldable pub found_of : ℕ → List ℕ → Option (List ℕ)
+found_of id b = cond (known_of id b) (Some (key_of id b)) None

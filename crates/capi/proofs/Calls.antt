@@ -3,17 +3,17 @@ use mathlib.Core.Path.{◌≡◌, refl, sym, ap, ◌∙◌}
 use mathlib.Core.Bool.{Bool, true, false}
 use mathlib.Core.List.{List, []}
 use Prim.Native.Nat.{ℕ, ◌*◌}
-use lib.Dec.{eqb}
 use lib.ListN.{length, take}
 use lib.Seq.{take_all}
 use native.Mathlib.Omega.{arith}
 use borrow.Author.Tests.{eqb-true, eq-eqb, ne_eqb}
+use Rattle.std.specs.Prelude.{Option, Some, is_some, unwrap_or}
 use Rattle.bits.specs.Bytes.{bits_of_bytes}
 use Rattle.bits.specs.Area.{shown}
 use Rattle.bits.proofs.Bools.{and_left}
 use Rattle.bits.proofs.Bytes.{length-bits_of_bytes}
-use Rattle.book.specs.Book.{known_of, key_of}
-use Rattle.book.proofs.Laws.{key-length}
+use Rattle.book.specs.Book.{known_of, key_of, found_of}
+use Rattle.book.proofs.Laws.{known_key, found-some, found_key}
 use Rattle.rules.specs.declared.Answer.{Answer}
 use Rattle.rules.specs.declared.Answer.TheVariants.{Done, BadState}
 use Rattle.rules.specs.Answers.{number_of}
@@ -120,18 +120,18 @@ reader_steps = record {
 
 -- ---- a key that was looked for
 
-module _ (keyid : ℕ) (book key : List ℕ) (found : key ≡ key_of keyid book) where
-  pub unknown : (length key ≡ 16 → ⊥) → known_of keyid book ≡ false
-  unknown none = sym (key-length keyid book) ∙ ap (λ (k : List ℕ). eqb (length k) 16) (sym found) ∙ ne_eqb _ _ none
+module _ (keyid : ℕ) (book : List ℕ) where
+  -- it is in the book exactly where one is found
+  pub known : (o : Option (List ℕ)) → o ≡ found_of keyid book → known_of keyid book ≡ is_some o
+  known o found = sym (found-some keyid book) ∙ ap is_some (sym found)
 
-  pub known : length key ≡ 16 → known_of keyid book ≡ true
-  known some = sym (key-length keyid book) ∙ ap (λ (k : List ℕ). eqb (length k) 16) (sym found) ∙ eq-eqb _ _ some
-
-  pub key-given : (r : ℕ) (before after : List ℕ) → length key ≡ 16 → r ≡ number_of Done → after ≡ shown (take 128 (bits_of_bytes key)) before
-      → Leaves (key_given (key_of keyid book)) r 128 [] before after
-  key-given r before after some done shows =
+  pub key-given : (key : List ℕ) → Some key ≡ found_of keyid book → (r : ℕ) (before after : List ℕ) → r ≡ number_of Done
+      → after ≡ shown (take 128 (bits_of_bytes key)) before → Leaves (key_given (key_of keyid book)) r 128 [] before after
+  key-given key found r before after done shows =
+      let is : key ≡ key_of keyid book = ap (λ o. unwrap_or o []) found ∙ found_key keyid book in
+      let some : length key ≡ 16 = ap length is ∙ known_key keyid book (known (Some key) found) in
       let n : length (bits_of_bytes key) ≡ 128 = length-bits_of_bytes key ∙ ap (λ (k : ℕ). 8 * k) some in
-      rw (← found) record {
+      rw (← is) record {
         answered = done;
         counted = sym n;
         stored = refl;

@@ -217,10 +217,9 @@ pub fn kusarehyon_book_find(book: &[u8], keyid: u8, reply: &mut [u8], bits: &mut
     if !book::sound(book) {
         return refused(Answer::BadBook, reply, bits);
     }
-    let key = book::find(book, keyid);
-    if key.len() != book::KEY_BYTES {
+    let Some(key) = book::find(book, keyid) else {
         return refused(Answer::UnknownKey, reply, bits);
-    }
+    };
     bits::show(reply, key, KEY_BITS);
     *bits = KEY_BITS;
     Answer::Done.number()

@@ -19,6 +19,7 @@ use Rattle.frames.proofs as Frames
 use Rattle.frames.specs.contracts as FramesContracts
 use Rattle.payloads.proofs as Payloads
 use Rattle.payloads.specs.contracts as PayloadsContracts
+use Rattle.std.specs.Option.{option_copied}
 use denote.RattleType.{RattleType}
 use denote.Param.{number}
 use denote.Param.Laws.{Laws}
@@ -154,7 +155,7 @@ count-put κs a x y p q = part refl refl (part p q refl)
 pub sound : Determines BookContracts.sound.ended Book.sound.Reads.Post
 sound κs a x y p q = part p q refl
 
-pub find : DeterminesShown BookContracts.find.ended Book.find.Reads.Post (λ κs r. r.now)
+pub find : DeterminesShown BookContracts.find.ended Book.find.Reads.Post (λ κs r. option_copied r)
 find κs a x y p q = (p ∙ sym q, refl)
 
 -- ---- frames

@@ -4,6 +4,7 @@ use Rattle.faces.proofs as Faces
 use Rattle.faces.specs.contracts as FacesContracts
 use Rattle.rules.proofs as Rules
 use Rattle.rules.specs.contracts as RulesContracts
+use Rattle.std.specs.Option.{option_copied}
 use Rattle.determined.specs.Determined.{Determines, DeterminesShown}
 use Rattle.determined.proofs.Determined.{part}
 
@@ -50,7 +51,7 @@ message-shown κs a x y p q = part p q refl
 pub answer-number : Determines RulesContracts.Answer.number.ended Rules.Answer.number.Reads.Post
 answer-number κs a x y p q = part p q refl
 
-pub key_under_lem : DeterminesShown RulesContracts.tag.key_under.ended Rules.tag.key_under.Reads.Post (λ κs r. r.now)
+pub key_under_lem : DeterminesShown RulesContracts.tag.key_under.ended Rules.tag.key_under.Reads.Post (λ κs r. option_copied r)
 key_under_lem κs a x y p q = (p ∙ sym q, refl)
 
 pub command-verdict : Determines RulesContracts.tag.command_verdict.ended Rules.tag.command_verdict.Reads.Post

@@ -5,11 +5,11 @@ use mathlib.Core.List.{List, []}
 use Prim.Native.Nat.{ℕ, ◌+◌, ◌*◌, ◌≤◌}
 use native.Mathlib.Omega.{arith}
 use lib.Dec.{ltb, leb, eqb}
-use lib.ListN.{length}
 use borrow.Author.Tests.{ltb-false, leb-true, not-false}
+use Rattle.std.specs.Prelude.{None, is_some, unwrap_or}
 use Rattle.bits.proofs.Bools.{and_left, and_right, neither, unless}
 use Rattle.book.specs.Book as Book
-use Rattle.book.proofs.Laws.{key-length}
+use Rattle.book.proofs.Laws.{found-some, found_key}
 use Rattle.payloads.specs.Payloads.{mac64, length_fits, data_limit}
 use Rattle.faces.specs.declared.Name.{Name}
 use Rattle.faces.specs.declared.Name.TheVariants.{CsReset, Ta1, Ia1, Ia2, Ma1, Ma2}
@@ -21,7 +21,7 @@ use Rattle.rules.specs.declared.Work.{Work}
 use Rattle.rules.specs.declared.Work.TheVariants.{Start, Prove, Receive}
 use Rattle.rules.specs.Calls.{small_room}
 use Rattle.faces.specs.TagFaces.{row_of, fresh, face_fits}
-use Rattle.rules.specs.TagRules.{key_under, kind_wanted, command_keeping, command_closing, command_verdict, command_work, response_keeping, response_closing, response_verdict}
+use Rattle.rules.specs.TagRules.{key_under, found_under, kind_wanted, command_keeping, command_closing, command_verdict, command_work, response_keeping, response_closing, response_verdict}
 use Rattle.faces.proofs.Fits.{open-width}
 use Rattle.rules.proofs.Verdicts.{Passed, passed}
 
@@ -109,14 +109,23 @@ module _ (f : Face) (p : ShownMessage) (e : response_verdict f p ≡ Go) where
 
 -- ---- a command's key
 
--- it is found exactly where an authentication's KeyID is in the book
-pub key_known : (kind keyid : ℕ) (book : List ℕ) → eqb (length (key_under kind keyid book)) 16 ≡ (eqb kind 0 && Book.known_of keyid book)
-unfolding key_under
-key_known kind keyid book = at (eqb kind 0)
-  where
-    at : (b : Bool) → eqb (length (cond b (Book.key_of keyid book) [])) 16 ≡ (b && Book.known_of keyid book)
-    at true = key-length keyid book
-    at false = refl
+module _ (kind keyid : ℕ) (book : List ℕ) where
+  -- one is found exactly where an authentication's KeyID is in the book
+  pub key_known : is_some (found_under kind keyid book) ≡ (eqb kind 0 && Book.known_of keyid book)
+  unfolding found_under
+  key_known = at (eqb kind 0)
+    where
+      at : (b : Bool) → is_some (cond b (Book.found_of keyid book) None) ≡ (b && Book.known_of keyid book)
+      at true = found-some keyid book
+      at false = refl
+
+  pub key_found : unwrap_or (found_under kind keyid book) [] ≡ key_under kind keyid book
+  unfolding found_under key_under
+  key_found = at (eqb kind 0)
+    where
+      at : (b : Bool) → unwrap_or (cond b (Book.found_of keyid book) None) [] ≡ cond b (Book.key_of keyid book) []
+      at true = found_key keyid book
+      at false = refl
 
 -- ---- a command's work
 

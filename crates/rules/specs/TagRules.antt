@@ -1,6 +1,6 @@
 -- Document 01, "Tag machine" and "Replies and refusals": what is refused, all on public parts. A message, kinds 1 and 2, has data
 -- bits where an authentication has method, step, options and KeyID: the checks look at these under kind 0 alone. Assumes nothing.
-use Rattle.std.specs.Prelude.{Bool, false, not, cond, ◌&&◌, ◌||◌, List, [], ℕ, ltb, eqb}
+use Rattle.std.specs.Prelude.{Bool, false, not, cond, ◌&&◌, ◌||◌, List, [], ℕ, ltb, eqb, Option, None}
 use Rattle.bits.specs.Bytes.{bits_of_bytes}
 use Rattle.book.specs.Book as Book
 use Rattle.payloads.specs.Payloads.{data_limit, securing, supports, supports_start, fields_in, key_id_in, zeros_of, length_fits, beyond_of}
@@ -22,6 +22,10 @@ use Rattle.rules.specs.Calls.{Command, small_room, big_number}
 -- the key under a command's KeyID: only an authentication, kind 0, has one to look for in the book
 unfoldable pub key_under : ℕ → ℕ → List ℕ → List ℕ
 key_under kind keyid book = cond (eqb kind 0) (Book.key_of keyid book) []
+
+-- whether there is one, and which
+unfoldable pub found_under : ℕ → ℕ → List ℕ → Option (List ℕ)
+found_under kind keyid book = cond (eqb kind 0) (Book.found_of keyid book) None
 
 -- to a state of the width w: of the payload the fields of an authentication but its keystream bits, and whether the eight bits are
 -- zero; of the book whether it is sound, and has the command's KeyID

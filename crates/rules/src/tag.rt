@@ -1,6 +1,7 @@
 // What the tag's table of states asks, and what a call is refused for.
 ghost use Rattle.std.specs.Prelude.{◌≡◌, false};
-ghost use Rattle.rules.specs.TagRules.{key_under, kind_wanted, step_wanted, key_fits, options_supported, wrong_length, command_keeping, command_closing, command_verdict, command_work, response_verdict};
+ghost use Rattle.std.specs.Option.{option_copied};
+ghost use Rattle.rules.specs.TagRules.{found_under, kind_wanted, step_wanted, key_fits, options_supported, wrong_length, command_keeping, command_closing, command_verdict, command_work, response_verdict};
 
 use crate::{Closing, Keeping, Shown, ShownMessage, Verdict, Work, order};
 use bits::AREA_BYTES;
@@ -9,15 +10,15 @@ use payloads::{DATA_BITS, NUMBER_LIMIT};
 
 // ---- a command
 
-// The key under a command's KeyID, as a part of the book: an empty part where it is not there. Under the other kinds the KeyID's
-// place has data, which is not searched for.
-pub fn key_under(kind: u8, keyid: u8, book: &[u8]) -> &[u8]
-    ensures { result.now ≡ key_under kind keyid book.now }
+// The key under a command's KeyID, as a part of the book. Under the other kinds the KeyID's place has data, which is not searched
+// for.
+pub fn key_under(kind: u8, keyid: u8, book: &[u8]) -> Option<&[u8]>
+    ensures { option_copied result ≡ found_under kind keyid book.now }
 {
     if kind == 0 {
         book::find(book, keyid)
     } else {
-        &book[..0]
+        None
     }
 }
 

@@ -92,9 +92,9 @@ impl Tag {
             fields,
             zeros: payloads::zeros(face.width, payload, count),
             book: book::sound(book),
-            known: key.len() == book::KEY_BYTES,
+            known: key.is_some(),
         };
-        tag_work::carry(t, shown, key, payload, reply)
+        tag_work::carry(t, shown, key.unwrap_or(b""), payload, reply)
     }
 
     // A response that the host wants: `kind` 4 comm, 5 secure; the first `count` bits of `data`.
@@ -159,12 +159,13 @@ impl Reader {
             options,
             number,
             book: book::sound(book),
-            known: key.len() == book::KEY_BYTES,
+            known: key.is_some(),
             room: reply.len(),
         };
         match verdicts::reader::begin(t, shown) {
             Verdict::Refuse { closes, answer } => reader_work::refuse(t, closes, answer, reply),
             Verdict::Go => {
+                let key = key.unwrap_or(b"");
                 let o = authentication::reader::begin(method, options, keyid, number, key);
                 reader_work::say(o, reply)
             }

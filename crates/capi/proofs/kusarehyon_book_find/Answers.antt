@@ -1,7 +1,7 @@
 -- `capi::kusarehyon_book_find` meets its contract.
 use borrow.Author.Tests.{lt-ltb, le-ltb}
 use Rattle.capi.specs.Calls.{find_called}
-use Rattle.capi.proofs.Calls.{denied, granted, refused, unknown, known, key-given}
+use Rattle.capi.proofs.Calls.{denied, granted, refused, known, key-given}
 use Rattle.capi.proofs.kusarehyon_book_find.Goals as goal
 
 pub returns-then-reply-lt-AREA_BYTES : goal.returns-then-reply-lt-AREA_BYTES
@@ -14,14 +14,14 @@ unfolding find_called
 returns-then-not-sound c =
     rw (le-ltb _ _ c.if-reply-lt-AREA_BYTES.false, denied _ c.sound.ensures c.if-not-sound.true) (refused _ _ _ _ _ _ c.refused-then-not-sound.ensures)
 
-pub returns-then-key-ne-KEY_BYTES : goal.returns-then-key-ne-KEY_BYTES
+pub returns-in_default : goal.returns-in_default
 unfolding find_called
-returns-then-key-ne-KEY_BYTES c =
-    rw (le-ltb _ _ c.if-reply-lt-AREA_BYTES.false, granted _ c.sound.ensures c.if-not-sound.false, unknown _ _ _ c.find-key.ensures c.if-key-ne-KEY_BYTES.true)
-    (refused _ _ _ _ _ _ c.refused-then-key-ne-KEY_BYTES.ensures)
+returns-in_default c =
+    rw (le-ltb _ _ c.if-reply-lt-AREA_BYTES.false, granted _ c.sound.ensures c.if-not-sound.false, known _ _ _ c.in_default.ensures)
+    (refused _ _ _ _ _ _ c.refused-in_default.ensures)
 
 pub returns : goal.returns
 unfolding find_called
 returns c =
-    rw (le-ltb _ _ c.if-reply-lt-AREA_BYTES.false, granted _ c.sound.ensures c.if-not-sound.false, known _ _ _ c.find-key.ensures c.if-key-ne-KEY_BYTES.false)
-    (key-given _ _ _ c.find-key.ensures _ _ _ c.if-key-ne-KEY_BYTES.false c.number.ensures c.show.ensures)
+    rw (le-ltb _ _ c.if-reply-lt-AREA_BYTES.false, granted _ c.sound.ensures c.if-not-sound.false, known _ _ _ c.in-Some.ensures)
+    (key-given _ _ _ c.in-Some.ensures _ _ _ c.number.ensures c.show.ensures)
