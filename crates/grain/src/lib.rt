@@ -8,10 +8,12 @@ mod taps;
 ghost use Rattle.std.specs.Prelude.{◌≡◌, cond, false, ℕ, ◌<◌, ◌≤◌, ◌^◌, ◌%◌, get_or, length, take};
 ghost use Rattle.bits.specs.Bits.{bits_of, num_of};
 ghost use Rattle.bits.specs.Bytes.{bits_of_bytes, with_front, word_bits};
-ghost use Rattle.grain.specs.Generator.{push, value, clock, out, bit_at, next_b, next_s};
+ghost use Rattle.grain.specs.Generator.{push, product, value, clock, out, bit_at, next_b, next_s};
 ghost use Rattle.grain.specs.Start.{loaded, started, provers};
 ghost use Rattle.grain.specs.Mac.{padding, taken, filled, absorbed, authenticated, encrypted, decrypted};
-ghost use Rattle.grain.specs.Stored.{width_of, bits_r, register_of, state_of, engine_of, mac_of, session_of, outputs_of, pair_of, keystream_of, place_of, terms};
+ghost use Rattle.grain.specs.Stored.{width_of, bits_r, register_of, state_of, engine_of, mac_of, session_of, outputs_of, pair_of, keystream_of, place_of, places, terms};
+
+use taps::Tap;
 
 // Who is authenticated (Table 2): the tag, the interrogator, or both.
 #[derive(Clone, Copy)]
@@ -157,34 +159,31 @@ impl Engine {
         }
     }
 
-    // The bit at a place of a table of taps.
-    fn bit(self, place: usize) -> bool
-        ensures { result ≡ bit_at (state_of self) (place_of place) }
+    #[tactic(auto, unfolding(crate::specs::Stored::state_of))]
+    fn bit(self, tap: Tap) -> bool
+        ensures { result ≡ bit_at (state_of self) (place_of tap) }
     {
-        if place < 128 {
-            let b = self.b;
-            return b.bit(place);
+        match tap {
+            Tap::B(place) => self.b.bit(place),
+            Tap::S(place) => self.s.bit(place),
         }
-        let s = self.s;
-        s.bit(place - 128)
     }
 
-    // The sum of a table's terms.
-    fn value(self, table: &[u16]) -> bool
+    // No `all`, which stops at the first 0: secrets choose no branch.
+    fn product(self, taps: &[Tap]) -> bool
+        ensures { result ≡ product (state_of self) (places taps.now) }
+    {
+        taps.iter().fold(true, |all, &tap| all & self.bit(tap))
+    }
+
+    // The sum of a table's products. As a call for each table a start takes three times as long.
+    #[inline(always)]
+    fn value<const N: usize>(self, table: &[[Tap; N]]) -> bool
         ensures { result ≡ value (state_of self) (terms table.now) }
     {
         let mut sum = false;
-        let mut term = true;
-        let mut i = 0;
-        while i < table.len() {
-            let x = table[i];
-            let place = (x % 256) as usize;
-            term = term & self.bit(place);
-            if x < 256 {
-                sum = sum ^ term;
-                term = true;
-            }
-            i += 1;
+        for taps in table {
+            sum = sum ^ self.product(taps);
         }
         sum
     }
@@ -201,8 +200,7 @@ impl Engine {
         ensures { result ≡ value (state_of self) next_b }
     {
         self.value(&taps::NEXT_B_SINGLE)
-            ^ self.value(&taps::NEXT_B_TWOFOLD_LOW)
-            ^ self.value(&taps::NEXT_B_TWOFOLD_HIGH)
+            ^ self.value(&taps::NEXT_B_TWOFOLD)
             ^ self.value(&taps::NEXT_B_FOURFOLD)
             ^ self.value(&taps::NEXT_B_THREEFOLD)
     }
