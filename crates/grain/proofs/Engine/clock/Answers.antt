@@ -5,4 +5,4 @@ use Rattle.grain.proofs.Engine.clock.Goals as goal
 
 pub returns : goal.returns
 unfolding engine_of clock state_of
-returns c = rw (c.push-s2.ensures, c.push-b2.ensures, c.next_s.ensures, c.next_b.ensures)
+returns c = rw (c.push-2.ensures, c.push.ensures, c.next_s.ensures, c.next_b.ensures)
