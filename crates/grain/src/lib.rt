@@ -68,6 +68,21 @@ pub struct Pair {
     pub engine: Engine,
 }
 
+impl Method {
+    // s96 and s97, as the two bits of a number.
+    #[tactic(auto, unfolding(bits::specs::Bits::num_of))]
+    fn proving(self) -> u64
+        ensures value { result ≡ num_of (provers self) }
+        ensures small { result < 4 }
+    {
+        match self {
+            Method::Ta => 2,
+            Method::Ia => 1,
+            Method::Ma => 3,
+        }
+    }
+}
+
 impl Width {
     pub fn bits(self) -> usize
         ensures { result ≡ width_of self }
@@ -94,10 +109,9 @@ impl Engine {
     pub fn load(key: Register, method: Method, reader: u64, tag: u64) -> Engine
         ensures { result ≡ engine_of (loaded method (bits_r key) reader tag) }
     {
-        let proves = proving(method);
         let s = Register {
             first: (1 << 63) + (reader % (1 << 47)) * (1 << 16) + tag / (1 << 32) % (1 << 16),
-            last: (tag % (1 << 32)) * (1 << 32) + proves * (1 << 30) + ((1 << 30) - 2),
+            last: (tag % (1 << 32)) * (1 << 32) + method.proving() * (1 << 30) + ((1 << 30) - 2),
         };
         Engine { b: key, s }
     }
@@ -219,6 +233,7 @@ impl Engine {
     }
 
     // One clock, with `f` added into both new bits.
+    #[tactic(auto, unfolding(crate::specs::Generator::clock, crate::specs::Stored::engine_of, crate::specs::Stored::state_of))]
     fn clock(self, f: bool) -> Engine
         ensures { result ≡ engine_of (clock f (state_of self)) }
     {
@@ -337,17 +352,7 @@ impl Register {
     }
 }
 
-// s96 and s97, as the two bits of a number.
-fn proving(method: Method) -> u64
-    ensures { (bits_of 2 result ≡ provers method) × (result < 4) }
-{
-    match method {
-        Method::Ta => 2,
-        Method::Ia => 1,
-        Method::Ma => 3,
-    }
-}
-
+#[tactic(auto, using(bits::proofs::Words::word_bit_lem))]
 fn word_bit(n: u64, place: usize) -> bool
     requires { place < 64 }
     ensures { result ≡ get_or (bits_of 64 n) place false }
