@@ -6,15 +6,18 @@
 mod taps;
 
 ghost use Rattle.std.specs.Prelude.{◌≡◌, cond, false, ℕ, ◌<◌, ◌≤◌, ◌^◌, ◌%◌, get_or, length, take};
+ghost use Rattle.grain.specs.declared.Width.{Width};
 ghost use Rattle.bits.specs.Bits.{bits_of, num_of};
 ghost use Rattle.bits.specs.Bytes.{bits_of_bytes, with_front, word_bits};
-ghost use Rattle.grain.specs.Generator.{push, value, clock, out, bit_at, next_b, next_s};
+ghost use Rattle.grain.specs.Generator.{push, product, value, clock, out, bit_at, next_b, next_s};
 ghost use Rattle.grain.specs.Start.{loaded, started, provers};
 ghost use Rattle.grain.specs.Mac.{padding, taken, filled, absorbed, authenticated, encrypted, decrypted};
-ghost use Rattle.grain.specs.Stored.{width_of, bits_r, register_of, state_of, engine_of, mac_of, session_of, outputs_of, pair_of, keystream_of, place_of, terms};
+ghost use Rattle.grain.specs.Stored.{width_of, bits_r, register_of, state_of, engine_of, mac_of, session_of, outputs_of, pair_of, keystream_of, place_of, places, terms};
+
+use taps::Tap;
 
 // Who is authenticated (Table 2): the tag, the interrogator, or both.
-#[derive(Clone, Copy)]
+#[derive(Clone, Copy, Debug, PartialEq, Eq)]
 pub enum Method {
     Ta,
     Ia,
@@ -22,7 +25,7 @@ pub enum Method {
 }
 
 // The size of the MAC (Table 4, bit 0).
-#[derive(Clone, Copy)]
+#[derive(Clone, Copy, Debug, PartialEq, Eq)]
 pub enum Width {
     Mac32,
     Mac64,
@@ -65,6 +68,21 @@ pub struct Pair {
     pub engine: Engine,
 }
 
+impl Method {
+    // s96 and s97, as the two bits of a number.
+    #[tactic(auto, unfolding(bits::specs::Bits::num_of))]
+    fn proving(self) -> u64
+        ensures value { result ≡ num_of (provers self) }
+        ensures small { result < 4 }
+    {
+        match self {
+            Method::Ta => 2,
+            Method::Ia => 1,
+            Method::Ma => 3,
+        }
+    }
+}
+
 impl Width {
     pub fn bits(self) -> usize
         ensures { result ≡ width_of self }
@@ -74,6 +92,16 @@ impl Width {
             Width::Mac64 => 64,
         }
     }
+
+    // The low bits of a word, as many as a MAC has.
+    fn narrow(self, x: u64) -> u64
+        ensures { result ≡ num_of (bits_of (width_of self) x) }
+    {
+        match self {
+            Width::Mac32 => x % (1 << 32),
+            Width::Mac64 => x,
+        }
+    }
 }
 
 impl Engine {
@@ -81,10 +109,9 @@ impl Engine {
     pub fn load(key: Register, method: Method, reader: u64, tag: u64) -> Engine
         ensures { result ≡ engine_of (loaded method (bits_r key) reader tag) }
     {
-        let proves = proving(method);
         let s = Register {
             first: (1 << 63) + (reader % (1 << 47)) * (1 << 16) + tag / (1 << 32) % (1 << 16),
-            last: (tag % (1 << 32)) * (1 << 32) + proves * (1 << 30) + ((1 << 30) - 2),
+            last: (tag % (1 << 32)) * (1 << 32) + method.proving() * (1 << 30) + ((1 << 30) - 2),
         };
         Engine { b: key, s }
     }
@@ -95,8 +122,7 @@ impl Engine {
     {
         let mut e = self;
         for _ in 0usize..256 {
-            let y = e.out();
-            e = e.clock(y);
+            e = e.clock(e.out());
         }
         e
     }
@@ -109,8 +135,7 @@ impl Engine {
         let mut e = self;
         let mut word: u64 = 0;
         for _ in 0..w {
-            let y = e.out();
-            word = (word << 1) | (y as u64);
+            word = (word << 1) | (e.out() as u64);
             e = e.clock(false);
         }
         Outputs { word, engine: e }
@@ -147,44 +172,39 @@ impl Engine {
     {
         let w = width.bits();
         let acc = self.outputs(w);
-        let e = acc.engine;
-        let reg = e.outputs(w);
-        let engine = reg.engine;
+        let reg = acc.engine.outputs(w);
         Session {
-            engine,
+            engine: reg.engine,
             acc: acc.word,
             reg: reg.word,
         }
     }
 
-    // The bit at a place of a table of taps.
-    fn bit(self, place: usize) -> bool
-        ensures { result ≡ bit_at (state_of self) (place_of place) }
+    #[tactic(auto, unfolding(crate::specs::Stored::state_of))]
+    fn bit(self, tap: Tap) -> bool
+        ensures { result ≡ bit_at (state_of self) (place_of tap) }
     {
-        if place < 128 {
-            let b = self.b;
-            return b.bit(place);
+        match tap {
+            Tap::B(place) => self.b.bit(place),
+            Tap::S(place) => self.s.bit(place),
         }
-        let s = self.s;
-        s.bit(place - 128)
     }
 
-    // The sum of a table's terms.
-    fn value(self, table: &[u16]) -> bool
+    // No `all`, which stops at the first 0: secrets choose no branch.
+    fn product(self, taps: &[Tap]) -> bool
+        ensures { result ≡ product (state_of self) (places taps.now) }
+    {
+        taps.iter().fold(true, |all, &tap| all & self.bit(tap))
+    }
+
+    // The sum of a table's products. As a call for each table a start takes three times as long.
+    #[inline(always)]
+    fn value<const N: usize>(self, table: &[[Tap; N]]) -> bool
         ensures { result ≡ value (state_of self) (terms table.now) }
     {
         let mut sum = false;
-        let mut term = true;
-        let mut i = 0;
-        while i < table.len() {
-            let x = table[i];
-            let place = (x % 256) as usize;
-            term = term & self.bit(place);
-            if x < 256 {
-                sum = sum ^ term;
-                term = true;
-            }
-            i += 1;
+        for taps in table {
+            sum = sum ^ self.product(taps);
         }
         sum
     }
@@ -201,8 +221,7 @@ impl Engine {
         ensures { result ≡ value (state_of self) next_b }
     {
         self.value(&taps::NEXT_B_SINGLE)
-            ^ self.value(&taps::NEXT_B_TWOFOLD_LOW)
-            ^ self.value(&taps::NEXT_B_TWOFOLD_HIGH)
+            ^ self.value(&taps::NEXT_B_TWOFOLD)
             ^ self.value(&taps::NEXT_B_FOURFOLD)
             ^ self.value(&taps::NEXT_B_THREEFOLD)
     }
@@ -214,16 +233,14 @@ impl Engine {
     }
 
     // One clock, with `f` added into both new bits.
+    #[tactic(auto, unfolding(crate::specs::Generator::clock, crate::specs::Stored::engine_of, crate::specs::Stored::state_of))]
     fn clock(self, f: bool) -> Engine
         ensures { result ≡ engine_of (clock f (state_of self)) }
     {
-        let nb = self.next_b() ^ f;
-        let ns = self.next_s() ^ f;
-        let b = self.b;
-        let s = self.s;
-        let b2 = b.push(nb);
-        let s2 = s.push(ns);
-        Engine { b: b2, s: s2 }
+        Engine {
+            b: self.b.push(self.next_b() ^ f),
+            s: self.s.push(self.next_s() ^ f),
+        }
     }
 }
 
@@ -233,8 +250,7 @@ impl Session {
         ensures { result ≡ session_of (authenticated (take count (bits_of_bytes bytes.now)) (mac_of (width_of width) self)) }
     {
         let n = bits::bits_in(bytes, count);
-        let x = self.absorb(bytes, n);
-        x.pad(width)
+        self.absorb(bytes, n).pad(width)
     }
 
     // The first `count` bits of `bytes` are encrypted where they stand, and the MAC goes over the encrypted bits.
@@ -242,7 +258,7 @@ impl Session {
         ensures { (result ≡ session_of (authenticated (encrypted (take count (bits_of_bytes bytes.old)) (mac_of (width_of width) self)) (mac_of (width_of width) self)))
             × (bytes.new ≡ with_front count (encrypted (take count (bits_of_bytes bytes.old)) (mac_of (width_of width) self)) bytes.old) }
     {
-        self.message(width, bytes, count, false)
+        self.message::<false>(width, bytes, count)
     }
 
     // The first `count` bits of `bytes` are decrypted where they stand, and the MAC goes over the bits as they came.
@@ -250,27 +266,24 @@ impl Session {
         ensures { (result ≡ session_of (authenticated (take count (bits_of_bytes bytes.old)) (mac_of (width_of width) self)))
             × (bytes.new ≡ with_front count (decrypted (take count (bits_of_bytes bytes.old)) (mac_of (width_of width) self)) bytes.old) }
     {
-        self.message(width, bytes, count, true)
+        self.message::<true>(width, bytes, count)
     }
 
-    fn message(self, width: Width, bytes: &mut [u8], count: usize, decrypting: bool) -> Session
-        ensures { (result ≡ session_of (authenticated (cond decrypting (take count (bits_of_bytes bytes.old)) (encrypted (take count (bits_of_bytes bytes.old)) (mac_of (width_of width) self))) (mac_of (width_of width) self)))
-            × (bytes.new ≡ with_front count (cond decrypting (decrypted (take count (bits_of_bytes bytes.old)) (mac_of (width_of width) self)) (encrypted (take count (bits_of_bytes bytes.old)) (mac_of (width_of width) self))) bytes.old) }
+    fn message<const DECRYPTING: bool>(self, width: Width, bytes: &mut [u8], count: usize) -> Session
+        ensures { (result ≡ session_of (authenticated (cond DECRYPTING (take count (bits_of_bytes bytes.old)) (encrypted (take count (bits_of_bytes bytes.old)) (mac_of (width_of width) self))) (mac_of (width_of width) self)))
+            × (bytes.new ≡ with_front count (cond DECRYPTING (decrypted (take count (bits_of_bytes bytes.old)) (mac_of (width_of width) self)) (encrypted (take count (bits_of_bytes bytes.old)) (mac_of (width_of width) self))) bytes.old) }
     {
         let n = bits::bits_in(bytes, count);
-        let x = self.cipher(bytes, n, decrypting);
-        x.pad(width)
+        self.cipher::<DECRYPTING>(bytes, n).pad(width)
     }
 
     // A message bit goes in. At 32 bits the words' high halves hold what has left the shift register; `pad` drops it.
     fn step(self, m: bool) -> Session
-        ensures { (w : ℕ) → 0 < w → w ≤ 64 → mac_of w result ≡ taken m (mac_of w self) }
+        ensures { (v : Width) → mac_of (width_of v) result ≡ taken m (mac_of (width_of v) self) }
     {
-        let e = self.engine;
-        let p = e.pair();
-        let engine = p.engine;
+        let p = self.engine.pair();
         Session {
-            engine,
+            engine: p.engine,
             acc: self.acc ^ ((m as u64) * self.reg),
             reg: (self.reg << 1) | (p.mac as u64),
         }
@@ -278,7 +291,7 @@ impl Session {
 
     fn absorb(self, bytes: &[u8], count: usize) -> Session
         requires { count ≤ length (bits_of_bytes bytes.now) }
-        ensures { (w : ℕ) → 0 < w → w ≤ 64 → mac_of w result ≡ absorbed (take count (bits_of_bytes bytes.now)) (mac_of w self) }
+        ensures { (v : Width) → mac_of (width_of v) result ≡ absorbed (take count (bits_of_bytes bytes.now)) (mac_of (width_of v) self) }
     {
         let mut x = self;
         for i in 0..count {
@@ -289,27 +302,20 @@ impl Session {
     }
 
     // Each bit has its keystream bit added, and of the two the encrypted one goes into the MAC.
-    fn cipher(self, bytes: &mut [u8], count: usize, decrypting: bool) -> Session
+    fn cipher<const DECRYPTING: bool>(self, bytes: &mut [u8], count: usize) -> Session
         requires { count ≤ length (bits_of_bytes bytes.old) }
-        ensures { (w : ℕ) → 0 < w → w ≤ 64 →
-            (mac_of w result ≡ absorbed (cond decrypting (take count (bits_of_bytes bytes.old)) (encrypted (take count (bits_of_bytes bytes.old)) (mac_of w self))) (mac_of w self))
-            × (bytes.new ≡ with_front count (cond decrypting (decrypted (take count (bits_of_bytes bytes.old)) (mac_of w self)) (encrypted (take count (bits_of_bytes bytes.old)) (mac_of w self))) bytes.old) }
+        ensures { (v : Width) →
+            (mac_of (width_of v) result ≡ absorbed (cond DECRYPTING (take count (bits_of_bytes bytes.old)) (encrypted (take count (bits_of_bytes bytes.old)) (mac_of (width_of v) self))) (mac_of (width_of v) self))
+            × (bytes.new ≡ with_front count (cond DECRYPTING (decrypted (take count (bits_of_bytes bytes.old)) (mac_of (width_of v) self)) (encrypted (take count (bits_of_bytes bytes.old)) (mac_of (width_of v) self))) bytes.old) }
     {
         let mut x = self;
         for i in 0..count {
             let m = bits::bit_at(bytes, i);
-            let k = x.key_bit();
+            let k = x.engine.out();
             bits::set_bit(bytes, i, m ^ k);
-            x = x.step(m ^ (k & !decrypting));
+            x = x.step(m ^ (k & !DECRYPTING));
         }
         x
-    }
-
-    fn key_bit(self) -> bool
-        ensures { result ≡ out (state_of self.engine) }
-    {
-        let e = self.engine;
-        e.out()
     }
 
     // The padding bit 1 goes in, and accumulator and shift register are cut to the width.
@@ -317,12 +323,10 @@ impl Session {
         ensures { result ≡ session_of (taken padding (mac_of (width_of width) self)) }
     {
         let x = self.step(true);
-        let w = width.bits();
-        let engine = x.engine;
         Session {
-            engine,
-            acc: narrow(x.acc, w),
-            reg: narrow(x.reg, w),
+            acc: width.narrow(x.acc),
+            reg: width.narrow(x.reg),
+            ..x
         }
     }
 }
@@ -331,13 +335,11 @@ impl Register {
     fn bit(self, place: usize) -> bool
         ensures { result ≡ get_or (bits_r self) place false }
     {
-        if place < 64 {
-            return word_bit(self.first, place);
+        match place {
+            0..64 => word_bit(self.first, place),
+            64..128 => word_bit(self.last, place - 64),
+            _ => false,
         }
-        if place < 128 {
-            return word_bit(self.last, place - 64);
-        }
-        false
     }
 
     fn push(self, x: bool) -> Register
@@ -350,28 +352,10 @@ impl Register {
     }
 }
 
-// s96 and s97, as the two bits of a number.
-fn proving(method: Method) -> u64
-    ensures { (bits_of 2 result ≡ provers method) × (result < 4) }
-{
-    match method {
-        Method::Ta => 2,
-        Method::Ia => 1,
-        Method::Ma => 3,
-    }
-}
-
+#[tactic(auto, using(bits::proofs::Words::word_bit_lem))]
 fn word_bit(n: u64, place: usize) -> bool
     requires { place < 64 }
     ensures { result ≡ get_or (bits_of 64 n) place false }
 {
     (n >> (63 - place)) & 1 == 1
-}
-
-// The low `w` bits.
-fn narrow(x: u64, w: usize) -> u64
-    requires { w ≤ 64 }
-    ensures { result ≡ num_of (bits_of w x) }
-{
-    if w < 64 { x % (1 << w) } else { x }
 }

@@ -1,39 +1,57 @@
-// The tap places of Annex C. Places 0 to 127 are b's, and from 128 on s's; a place with 256 added is multiplied by the next
-// entry. A sum is that of its tables, in Annex C's order; no table has more than eight entries, so that a compiler can read it
-// without a loop.
+// The tap places of Annex C: a table is a sum, and each of its entries a product of taps. A sum of Annex C's is that of its tables,
+// in Annex C's order; no table has more than eight entries, so that a compiler can read it without a loop.
+
+use Tap::{B, S};
+
+// A place of b or of s.
+#[derive(Clone, Copy)]
+pub enum Tap {
+    B(usize),
+    S(usize),
+}
 
 // The output: the products of two taps.
-pub const OUTPUT_TWOFOLD: [u16; 8] = [
-    256 + 12,
-    128 + 8,
-    256 + 128 + 13,
-    128 + 20,
-    256 + 95,
-    128 + 42,
-    256 + 128 + 60,
-    128 + 79,
+pub const OUTPUT_TWOFOLD: [[Tap; 2]; 4] = [
+    [B(12), S(8)],
+    [S(13), S(20)],
+    [B(95), S(42)],
+    [S(60), S(79)],
 ];
 
 // The output: the product of three.
-pub const OUTPUT_THREEFOLD: [u16; 3] = [256 + 12, 256 + 95, 128 + 94];
+pub const OUTPUT_THREEFOLD: [[Tap; 3]; 1] = [[B(12), B(95), S(94)]];
 
 // The output: the single taps.
-pub const OUTPUT_SINGLE: [u16; 8] = [128 + 93, 2, 15, 36, 45, 64, 73, 89];
+pub const OUTPUT_SINGLE: [[Tap; 1]; 8] = [
+    [S(93)],
+    [B(2)],
+    [B(15)],
+    [B(36)],
+    [B(45)],
+    [B(64)],
+    [B(73)],
+    [B(89)],
+];
 
 // The feedback of s: single taps.
-pub const NEXT_S: [u16; 6] = [128, 128 + 7, 128 + 38, 128 + 70, 128 + 81, 128 + 96];
+pub const NEXT_S: [[Tap; 1]; 6] = [[S(0)], [S(7)], [S(38)], [S(70)], [S(81)], [S(96)]];
 
 // The feedback of b: the single taps.
-pub const NEXT_B_SINGLE: [u16; 6] = [128, 0, 26, 56, 91, 96];
+pub const NEXT_B_SINGLE: [[Tap; 1]; 6] = [[S(0)], [B(0)], [B(26)], [B(56)], [B(91)], [B(96)]];
 
-// The feedback of b: the products of two whose first is b27 at most.
-pub const NEXT_B_TWOFOLD_LOW: [u16; 8] = [256 + 3, 67, 256 + 11, 13, 256 + 17, 18, 256 + 27, 59];
-
-// The feedback of b: the other products of two.
-pub const NEXT_B_TWOFOLD_HIGH: [u16; 6] = [256 + 40, 48, 256 + 61, 65, 256 + 68, 84];
+// The feedback of b: the products of two.
+pub const NEXT_B_TWOFOLD: [[Tap; 2]; 7] = [
+    [B(3), B(67)],
+    [B(11), B(13)],
+    [B(17), B(18)],
+    [B(27), B(59)],
+    [B(40), B(48)],
+    [B(61), B(65)],
+    [B(68), B(84)],
+];
 
 // The feedback of b: the product of four.
-pub const NEXT_B_FOURFOLD: [u16; 4] = [256 + 88, 256 + 92, 256 + 93, 95];
+pub const NEXT_B_FOURFOLD: [[Tap; 4]; 1] = [[B(88), B(92), B(93), B(95)]];
 
 // The feedback of b: the products of three.
-pub const NEXT_B_THREEFOLD: [u16; 6] = [256 + 22, 256 + 24, 25, 256 + 70, 256 + 78, 82];
+pub const NEXT_B_THREEFOLD: [[Tap; 3]; 2] = [[B(22), B(24), B(25)], [B(70), B(78), B(82)]];

@@ -6,4 +6,4 @@ use Rattle.grain.proofs.Engine.load.Goals as goal
 pub returns : goal.returns
 returns c =
     let a = c.args in
-    load_engine a.key a.method a.reader a.tag c.proving-proves.result (search rules) (search rules) c.proving-proves.ensures.0 c.proving-proves.ensures.1
+    rw c.proving.ensures.value (load_engine a.key a.method a.reader a.tag (search rules) (search rules))

@@ -7,4 +7,4 @@ use Rattle.grain.proofs.Engine.next_b.Goals as goal
 pub returns : goal.returns
 unfolding next_b terms
 returns c =
-    rw (c.value-5.ensures, c.value-4.ensures, c.value-3.ensures, c.value-2.ensures, c.value.ensures, value_cat, value_cat, value_cat, value_cat)
+    rw (c.value-4.ensures, c.value-3.ensures, c.value-2.ensures, c.value.ensures, value_cat, value_cat, value_cat)

@@ -26,7 +26,7 @@ loop-preserved c =
     let e : state_of l.e ≡ runs k st = ap state_of l.invariant.2 ∙ state_of-engine_of (runs k st) (sized_runs k st (sized_state_of c.args.self)) in
     let small : num_of (outs k st) < 2 ^ 63 = lt_of_lt_of_le (rw (length-outs k st) at (num_of-lt (outs k st))) (pow_mono {j = 63} (omega arith)) in (
       search rules,
-      rw (l.invariant.1, c.out-y.ensures, e, add-one, outs_snoc k st) (word_more (outs k st) _ small),
+      rw (l.invariant.1, c.out.ensures, e, add-one, outs_snoc k st) (word_more (outs k st) _ small),
       rw (c.clock-e.ensures, e, add-one, runs_snoc k st),
     )
 

@@ -18,7 +18,7 @@ loop-preserved c =
     let st = state_of c.args.self in
     let l = c.loop in
     let e : state_of l.e ≡ starts l.counter st = ap state_of l.invariant.1 ∙ state_of-engine_of (starts l.counter st) (sized_starts l.counter st (sized_state_of c.args.self)) in
-    (search rules, rw (add-one, c.clock-e.ensures, c.out-y.ensures, e))
+    (search rules, rw (add-one, c.clock-e.ensures, c.out.ensures, e))
 
 pub returns : goal.returns
 unfolding started

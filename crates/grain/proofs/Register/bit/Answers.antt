@@ -11,17 +11,17 @@ use Rattle.grain.proofs.Words.{length-bits_r}
 use borrow.Author.Rules.{rules}
 use Rattle.grain.proofs.Register.bit.Goals as goal
 
-pub returns-then-place-lt64 : goal.returns-then-place-lt64
+pub returns-in-0-to-63 : goal.returns-in-0-to-63
 unfolding bits_r
-returns-then-place-lt64 c =
+returns-in-0-to-63 c =
     let a = c.args in
     c.word_bit.ensures ∙ sym (get_d_left (bits_of 64 a.self.first) (bits_of 64 a.self.last) 64 a.place (length-bits_of 64 a.self.first) false (search rules))
 
-pub returns-then-place-lt128 : goal.returns-then-place-lt128
+pub returns-in-64-to-127 : goal.returns-in-64-to-127
 unfolding bits_r
-returns-then-place-lt128 c =
+returns-in-64-to-127 c =
     let a = c.args in
-    c.word_bit-then-place-lt128.ensures ∙ sym (get_d_right (bits_of 64 a.self.first) (bits_of 64 a.self.last) 64 a.place (length-bits_of 64 a.self.first) false (search rules))
+    c.word_bit-in-64-to-127.ensures ∙ sym (get_d_right (bits_of 64 a.self.first) (bits_of 64 a.self.last) 64 a.place (length-bits_of 64 a.self.first) false (search rules))
 
-pub returns : goal.returns
-returns c = sym (get_or-eq_default (bits_r c.args.self) false (omega (arith, length-bits_r c.args.self)))
+pub returns-in_default : goal.returns-in_default
+returns-in_default c = sym (get_or-eq_default (bits_r c.args.self) false (omega (arith, length-bits_r c.args.self)))

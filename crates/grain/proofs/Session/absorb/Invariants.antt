@@ -3,11 +3,12 @@ use mathlib.Core.Path.{◌≡◌}
 use Prim.Native.Nat.{ℕ, ◌≤◌, ◌<◌, ◌-◌}
 use lib.ListN.{take, drop}
 use Rattle.bits.specs.Bytes.{bits_of_bytes}
+use Rattle.grain.specs.declared.Width.{Width}
 use Rattle.grain.specs.Mac.{absorbed}
-use Rattle.grain.specs.Stored.{mac_of}
+use Rattle.grain.specs.Stored.{mac_of, width_of}
 use Rattle.grain.proofs.Session.absorb.Given as goal
 
 abbrev pub invariant-loop-i : goal.invariant-loop-i
 invariant-loop-i l =
     (l.i ≤ l.count)
-    × ((w : ℕ) → 0 < w → w ≤ 64 → absorbed (take (l.count - l.i) (drop l.i (bits_of_bytes l.bytes))) (mac_of w l.x) ≡ absorbed (take l.count (bits_of_bytes l.bytes)) (mac_of w l.initial.x))
+    × ((v : Width) → absorbed (take (l.count - l.i) (drop l.i (bits_of_bytes l.bytes))) (mac_of (width_of v) l.x) ≡ absorbed (take l.count (bits_of_bytes l.bytes)) (mac_of (width_of v) l.initial.x))

@@ -10,6 +10,5 @@ pub returns : goal.returns
 unfolding authenticated
 returns c =
     let a = c.args in
-    let h = width_small a.width in
     let s = cut_short c.bits_in-n.result a.count (bits_of_bytes a.bytes.now) c.bits_in-n.ensures in
-    rw (c.pad.ensures, c.absorb-x.ensures (width_of a.width) h.0 h.1, s.0)
+    rw (c.pad.ensures, c.absorb.ensures a.width, s.0)

@@ -8,9 +8,8 @@ use Rattle.grain.proofs.Session.message.Goals as goal
 
 pub returns : goal.returns
 unfolding authenticated
-returns c =
+returns g c =
     let a = c.args in
-    let h = width_small a.width in
     let s = cut_short c.bits_in-n.result a.count (bits_of_bytes a.bytes.now) c.bits_in-n.ensures in
-    let e = c.cipher-x.ensures (width_of a.width) h.0 h.1 in
+    let e = c.cipher.ensures a.width in
     (rw (c.pad.ensures, e.0, s.0), rw (s.0, s.1) at e.1)

@@ -10,7 +10,6 @@ unfolding session_of mac_of
 returns c =
     let a = c.args in
     let x = c.step-x in
-    let h = width_small a.width in
-    let e = ap session_of (sym (x.ensures (width_of a.width) h.0 h.1)) in
+    let e = ap session_of (sym (x.ensures a.width)) in
     let f : engine_of (state_of x.result.engine) ≡ x.result.engine = engine_of-state_of x.result.engine (search rules) (search rules) (search rules) (search rules) in
-    sym (e ∙ rw (f, ← c.bits-w.ensures, ← c.narrow.ensures, ← c.narrow-2.ensures))
+    sym (e ∙ rw (f, ← c.narrow.ensures, ← c.narrow-2.ensures))
