@@ -67,7 +67,7 @@ pub fn write(
     ensures out_after { out.new ≡ out_after out.old at kind count payload.now }
 {
     let next = verdict(out.len(), at, kind, count, payload)?;
-    put_frame(out, at, kind, count, payload);
+    put_frame(&mut out[at..], kind, count, payload);
     Ok(next)
 }
 
@@ -118,15 +118,14 @@ fn place(len: usize, at: usize, n: usize) -> Result<usize, Refusal>
     Ok(at + n)
 }
 
-// Writes a frame that is fine and has room: each writer has the tail from its own place.
-fn put_frame(out: &mut [u8], at: usize, kind: u8, count: usize, payload: &[u8])
-    requires { (size_of count ≤ length payload.now) × (at + 1 + length (count_bytes count) + size_of count ≤ length out.old) }
-    ensures { out.new ≡ sets out.old at (frame_of kind count payload.now) }
+// Writes a frame that is fine and has room at the front of `out`: each writer has the tail from its own place.
+fn put_frame(out: &mut [u8], kind: u8, count: usize, payload: &[u8])
+    requires { (size_of count ≤ length payload.now) × (1 + length (count_bytes count) + size_of count ≤ length out.old) }
+    ensures { out.new ≡ sets out.old 0 (frame_of kind count payload.now) }
 {
-    out[at] = kind;
-    let c = at + 1;
-    counts::put(&mut out[c..], count);
-    let p = c + counts::groups(count);
+    out[0] = kind;
+    counts::put(&mut out[1..], count);
+    let p = 1 + counts::groups(count);
     put_payload(&mut out[p..], payload, counts::size(count));
 }
 

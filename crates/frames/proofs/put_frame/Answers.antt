@@ -11,7 +11,6 @@ pub returns : goal.returns
 returns c =
     let m = c.size in
     let a = c.args in
-    two-runs (set a.out.now a.at a.kind) c.put.new.out c.put_payload.new.out
-    (count_bytes a.count) (take m.result a.payload.now)
-    (a.at + 1) (a.at + 1 + c.groups.result) c.put.ensures c.put_payload.ensures
-    ∙ rw (m.ensures, c.groups.ensures) (frame_runs a.out.now a.at a.kind a.count a.payload.now)
+    two-runs (set a.out.now 0 a.kind) c.put.new.out c.put_payload.new.out (count_bytes a.count) (take m.result a.payload.now)
+    1 (1 + c.groups-p.result) c.put.ensures c.put_payload.ensures
+    ∙ rw (m.ensures, c.groups-p.ensures) (frame_runs a.out.now 0 a.kind a.count a.payload.now)
