@@ -31,7 +31,8 @@ pub enum Width {
     Mac64,
 }
 
-// 128 bits: bit 0 is the highest of `first`.
+// 128 bits: bit 0 is the highest of `first`. What holds a key or what is made of one derives no `==`, which would branch on secrets,
+// and no `Debug`, which would print them.
 #[derive(Clone, Copy)]
 pub struct Register {
     pub first: u64,
@@ -249,8 +250,7 @@ impl Session {
     pub fn authenticate(self, width: Width, bytes: &[u8], count: usize) -> Session
         ensures { result ≡ session_of (authenticated (take count (bits_of_bytes bytes.now)) (mac_of (width_of width) self)) }
     {
-        let n = bits::bits_in(bytes, count);
-        self.absorb(bytes, n).pad(width)
+        self.absorb(bytes, count).pad(width)
     }
 
     // The first `count` bits of `bytes` are encrypted where they stand, and the MAC goes over the encrypted bits.
@@ -258,7 +258,7 @@ impl Session {
         ensures { (result ≡ session_of (authenticated (encrypted (take count (bits_of_bytes bytes.old)) (mac_of (width_of width) self)) (mac_of (width_of width) self)))
             × (bytes.new ≡ with_front count (encrypted (take count (bits_of_bytes bytes.old)) (mac_of (width_of width) self)) bytes.old) }
     {
-        self.message::<false>(width, bytes, count)
+        self.cipher::<false>(bytes, count).pad(width)
     }
 
     // The first `count` bits of `bytes` are decrypted where they stand, and the MAC goes over the bits as they came.
@@ -266,15 +266,7 @@ impl Session {
         ensures { (result ≡ session_of (authenticated (take count (bits_of_bytes bytes.old)) (mac_of (width_of width) self)))
             × (bytes.new ≡ with_front count (decrypted (take count (bits_of_bytes bytes.old)) (mac_of (width_of width) self)) bytes.old) }
     {
-        self.message::<true>(width, bytes, count)
-    }
-
-    fn message<const DECRYPTING: bool>(self, width: Width, bytes: &mut [u8], count: usize) -> Session
-        ensures { (result ≡ session_of (authenticated (cond DECRYPTING (take count (bits_of_bytes bytes.old)) (encrypted (take count (bits_of_bytes bytes.old)) (mac_of (width_of width) self))) (mac_of (width_of width) self)))
-            × (bytes.new ≡ with_front count (cond DECRYPTING (decrypted (take count (bits_of_bytes bytes.old)) (mac_of (width_of width) self)) (encrypted (take count (bits_of_bytes bytes.old)) (mac_of (width_of width) self))) bytes.old) }
-    {
-        let n = bits::bits_in(bytes, count);
-        self.cipher::<DECRYPTING>(bytes, n).pad(width)
+        self.cipher::<true>(bytes, count).pad(width)
     }
 
     // A message bit goes in. At 32 bits the words' high halves hold what has left the shift register; `pad` drops it.
@@ -289,12 +281,13 @@ impl Session {
         }
     }
 
+    // A bit is no element of the slice: the loop here and the next one count places.
     fn absorb(self, bytes: &[u8], count: usize) -> Session
-        requires { count ≤ length (bits_of_bytes bytes.now) }
         ensures { (v : Width) → mac_of (width_of v) result ≡ absorbed (take count (bits_of_bytes bytes.now)) (mac_of (width_of v) self) }
     {
+        let n = bits::bits_in(bytes, count);
         let mut x = self;
-        for i in 0..count {
+        for i in 0..n {
             let m = bits::bit_at(bytes, i);
             x = x.step(m);
         }
@@ -303,13 +296,13 @@ impl Session {
 
     // Each bit has its keystream bit added, and of the two the encrypted one goes into the MAC.
     fn cipher<const DECRYPTING: bool>(self, bytes: &mut [u8], count: usize) -> Session
-        requires { count ≤ length (bits_of_bytes bytes.old) }
         ensures { (v : Width) →
             (mac_of (width_of v) result ≡ absorbed (cond DECRYPTING (take count (bits_of_bytes bytes.old)) (encrypted (take count (bits_of_bytes bytes.old)) (mac_of (width_of v) self))) (mac_of (width_of v) self))
             × (bytes.new ≡ with_front count (cond DECRYPTING (decrypted (take count (bits_of_bytes bytes.old)) (mac_of (width_of v) self)) (encrypted (take count (bits_of_bytes bytes.old)) (mac_of (width_of v) self))) bytes.old) }
     {
+        let n = bits::bits_in(bytes, count);
         let mut x = self;
-        for i in 0..count {
+        for i in 0..n {
             let m = bits::bit_at(bytes, i);
             let k = x.engine.out();
             bits::set_bit(bytes, i, m ^ k);

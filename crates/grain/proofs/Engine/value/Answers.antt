@@ -1,9 +1,8 @@
 use mathlib.Core.Path.{◌∙◌}
 use mathlib.Core.Bool.{false}
-use lib.ListN.{take}
 use lib.Seq.{take_all}
 use borrow.Author.Rules.{rules}
-use Rattle.grain.specs.Stored.{state_of, terms}
+use Rattle.grain.specs.Stored.{state_of}
 use Rattle.grain.proofs.Table.{value_fold, false_⊕}
 use Rattle.grain.proofs.Engine.value.Goals as goal
 

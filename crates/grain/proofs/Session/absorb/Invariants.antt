@@ -1,6 +1,6 @@
 -- `grain::Session::absorb` meets its contract. The invariant: the rest of the message gives the whole.
 use mathlib.Core.Path.{◌≡◌}
-use Prim.Native.Nat.{ℕ, ◌≤◌, ◌<◌, ◌-◌}
+use Prim.Native.Nat.{◌≤◌, ◌-◌}
 use lib.ListN.{take, drop}
 use Rattle.bits.specs.Bytes.{bits_of_bytes}
 use Rattle.grain.specs.declared.Width.{Width}
@@ -10,5 +10,5 @@ use Rattle.grain.proofs.Session.absorb.Given as goal
 
 abbrev pub invariant-loop-i : goal.invariant-loop-i
 invariant-loop-i l =
-    (l.i ≤ l.count)
-    × ((v : Width) → absorbed (take (l.count - l.i) (drop l.i (bits_of_bytes l.bytes))) (mac_of (width_of v) l.x) ≡ absorbed (take l.count (bits_of_bytes l.bytes)) (mac_of (width_of v) l.initial.x))
+    (l.i ≤ l.n)
+    × ((v : Width) → absorbed (take (l.n - l.i) (drop l.i (bits_of_bytes l.bytes))) (mac_of (width_of v) l.x) ≡ absorbed (take l.n (bits_of_bytes l.bytes)) (mac_of (width_of v) l.initial.x))

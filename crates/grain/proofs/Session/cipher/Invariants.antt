@@ -3,7 +3,7 @@ use mathlib.Core.Path.{◌≡◌}
 use mathlib.Core.Bool.{not}
 use mathlib.Core.List.{◌++◌}
 use lib.Dec.{eqb}
-use Prim.Native.Nat.{ℕ, ◌≤◌, ◌<◌, ◌-◌}
+use Prim.Native.Nat.{◌≤◌, ◌-◌}
 use lib.ListN.{length, take, drop}
 use Rattle.bits.specs.Bytes.{bits_of_bytes, bytes_of}
 use Rattle.grain.specs.declared.Width.{Width}
@@ -13,7 +13,7 @@ use Rattle.grain.proofs.Session.cipher.Given as goal
 
 abbrev pub invariant-loop-i : goal.invariant-loop-i
 invariant-loop-i g l =
-    (l.i ≤ l.count) × (length l.bytes ≡ length l.initial.bytes) × (l.bytes ≡ bytes_of (length l.bytes) (bits_of_bytes l.bytes))
+    (l.i ≤ l.n) × (length l.bytes ≡ length l.initial.bytes) × (l.bytes ≡ bytes_of (length l.bytes) (bits_of_bytes l.bytes))
     × ((v : Width)
-    → (fed (not (eqb g.row.DECRYPTING 0)) (l.count - l.i) (drop l.i (bits_of_bytes l.bytes)) (mac_of (width_of v) l.x) ≡ fed (not (eqb g.row.DECRYPTING 0)) l.count (bits_of_bytes l.initial.bytes) (mac_of (width_of v) l.initial.x))
-    × (take l.i (bits_of_bytes l.bytes) ++ turned (not (eqb g.row.DECRYPTING 0)) (l.count - l.i) (drop l.i (bits_of_bytes l.bytes)) (mac_of (width_of v) l.x) ≡ turned (not (eqb g.row.DECRYPTING 0)) l.count (bits_of_bytes l.initial.bytes) (mac_of (width_of v) l.initial.x)))
+    → (fed (not (eqb g.row.DECRYPTING 0)) (l.n - l.i) (drop l.i (bits_of_bytes l.bytes)) (mac_of (width_of v) l.x) ≡ fed (not (eqb g.row.DECRYPTING 0)) l.n (bits_of_bytes l.initial.bytes) (mac_of (width_of v) l.initial.x))
+    × (take l.i (bits_of_bytes l.bytes) ++ turned (not (eqb g.row.DECRYPTING 0)) (l.n - l.i) (drop l.i (bits_of_bytes l.bytes)) (mac_of (width_of v) l.x) ≡ turned (not (eqb g.row.DECRYPTING 0)) l.n (bits_of_bytes l.initial.bytes) (mac_of (width_of v) l.initial.x)))

@@ -1,7 +1,7 @@
 -- `grain::Session::pad` meets its contract.
 use mathlib.Core.Path.{◌≡◌, sym, ap, ◌∙◌}
-use Rattle.grain.specs.Stored.{state_of, engine_of, mac_of, session_of, width_of}
-use Rattle.grain.proofs.Words.{width_small, engine_of-state_of}
+use Rattle.grain.specs.Stored.{state_of, engine_of, mac_of, session_of}
+use Rattle.grain.proofs.Words.{engine_of-state_of}
 use borrow.Author.Rules.{rules}
 use Rattle.grain.proofs.Session.pad.Goals as goal
 
