@@ -10,6 +10,9 @@ use text::Line;
 // The longest line: 21 of its head, 80 digits of five words, and its end.
 const LINE_BYTES: usize = 102;
 
+// The most lines that a table has.
+const LINES: u64 = 25;
+
 // The message of every set, and its bits.
 const MESSAGE: [u8; 5] = *b"\x12\x34\x56\x78\xAB";
 
@@ -161,7 +164,7 @@ impl<'a, P: Print> Set<'a, P> {
 
     // IKeyStream and TKeyStream, on two lines from `line` on; the session after them.
     fn keystreams(&self, line: u64, x: Session, method: Method) -> Session
-        requires { line < 25 }
+        requires { line < LINES }
     {
         let first = x.engine.keystream();
         let next = first.engine;
@@ -213,7 +216,7 @@ impl<'a, P: Print> Set<'a, P> {
 
     // The message, and its length in bits.
     fn message(&self, line: u64)
-        requires { line < 25 }
+        requires { line < LINES }
     {
         self.number(line, bits::field(&MESSAGE, 0, MESSAGE_BITS), MESSAGE_BITS);
         self.text(line + 1, b"40");
@@ -221,7 +224,7 @@ impl<'a, P: Print> Set<'a, P> {
 
     // b and s, on two lines from `line` on.
     fn registers(&self, line: u64, e: Engine)
-        requires { line < 25 }
+        requires { line < LINES }
     {
         self.register(line, e.b);
         self.register(line + 1, e.s);

@@ -15,7 +15,7 @@ enum Method {
     Ma,
 }
 
-// The kinds of what is handed on: authentication, comm, secure.
+// The kinds of what is handed on: authentication, comm, secure. They are numbers, as the machines' calls take any.
 const AUTH: u8 = 0;
 
 const COMM: u8 = 1;

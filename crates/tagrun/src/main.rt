@@ -38,7 +38,7 @@ fn read_full<R: Read>(from: &mut R, buffer: &mut [u8]) -> usize
     ensures { result ≤ length buffer.new }
 {
     let mut at = 0;
-    // By a place: `read_exact` says of a failed read not how much came before it, which is run, and `read_to_end` needs memory.
+    // A loop, as what came before a failed read is run: `read_exact` loses how much that is, and `read_to_end` needs memory.
     while at < buffer.len() {
         match from.read(&mut buffer[at..]) {
             Ok(0) => break,

@@ -1,5 +1,5 @@
-// The text of a line, in ASCII, written into a lent buffer from a place on. Every function answers the place behind its text. No
-// public function has a `requires`: what would stand past the buffer's end is dropped.
+// The text of a line, in ASCII, written into a lent buffer from a place on. Every function answers the place behind its text, and a
+// `Line` keeps both. No public function has a `requires`: what would stand past the buffer's end is dropped.
 #![tactic(auto)]
 
 ghost use Rattle.std.specs.Prelude.{◌≡◌, [], ◌∷◌, ◌<◌, take, replicate};
