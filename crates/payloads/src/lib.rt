@@ -17,7 +17,7 @@ pub const DATA_BITS: usize = 2048;
 pub const NUMBER_LIMIT: u64 = 1 << 48;
 
 // The fields that both authentication commands begin with.
-#[derive(Clone, Copy)]
+#[derive(Clone, Copy, Debug, PartialEq, Eq)]
 pub struct Fields {
     pub method: u8,
     pub step: u8,
@@ -25,7 +25,7 @@ pub struct Fields {
     pub keyid: u8,
 }
 
-// An authentication's payload, by its fields.
+// An authentication's payload, by its fields. Some hold keystream bits, so it derives no `==`, which would branch on them.
 #[derive(Clone, Copy)]
 pub enum Payload {
     StepZero {
@@ -193,6 +193,7 @@ pub fn data_bits(w: usize, count: usize) -> usize
 
 // Whether its eight zero bits are zero. They are in the clear also in a secure message, so they are looked at before anything is
 // decrypted.
+#[tactic(auto, unfolding(crate::specs::Payloads::zeros_of))]
 pub fn zeros(w: u8, payload: &[u8], count: usize) -> bool
     ensures { result ≡ zeros_of w count (bits_of_bytes payload.now) }
 {
