@@ -1,12 +1,15 @@
 -- The layouts: what is said field by field, and how many bits it has. Assumes nothing.
 use mathlib.Core.Path.{◌≡◌, refl, sym, ap, ap₂, ◌∙◌}
 use mathlib.Core.Bool.{Bool, false}
-use mathlib.Core.List.{List, [], ◌++◌, append_assoc, append-nil}
-use Prim.Native.Nat.{ℕ, ◌+◌, ◌*◌, ◌%◌, ◌≤◌, ◌<◌}
+use mathlib.Core.List.{List, [], ◌∷◌, ◌++◌, append_assoc, append-nil}
+use Prim.Native.Nat.{ℕ, zero, suc, ◌+◌, ◌*◌, ◌%◌, ◌≤◌, ◌<◌}
 use native.Mathlib.Nat.{mod-lt}
 use native.Mathlib.Omega.{arith}
-use lib.ListN.{length, replicate, length-append}
+use lib.ListN.{length, take, get_or, replicate, length-append}
 use lib.Seq.{sets}
+use Rattle.std.specs.List.{All}
+use Rattle.std.proofs.lemmas.List.{take_more}
+use Rattle.std.proofs.lemmas.Grind.{flat_map-append}
 use Rattle.bits.specs.Bits.{bits_of}
 use Rattle.bits.specs.Bytes.{bits_of_bytes, bytes_of, word_bits}
 use Rattle.bits.specs.Area.{area_bytes, shown}
@@ -14,7 +17,10 @@ use Rattle.bits.proofs.Numbers.{length-bits_of, bits_of-join, bits_of-mod}
 use Rattle.bits.proofs.Bytes.{Octets}
 use Rattle.bits.proofs.Area.{shown-zeros}
 use Rattle.bits.proofs.Replies.{field_put}
-use Rattle.payloads.specs.Payloads.{step_zero, step_one, tag_proof, tag_challenge, status, mutual_proof, message}
+use Rattle.payloads.specs.declared.Part.{Part}
+use Rattle.payloads.specs.declared.Payload.{Payload}
+use Rattle.payloads.specs.Parts.{bits_of_parts, Says}
+use Rattle.payloads.specs.Payloads.{layout_of, step_zero, step_one, tag_proof, tag_challenge, status, mutual_proof, message}
 
 none : (n : ℕ) → bits_of 0 n ≡ []
 unfolding bits_of
@@ -101,3 +107,26 @@ message-put body at w mac xs ys zs o e s h p q =
     let f : length (body ++ z) ≡ at + 8 = length-append body z ∙ ap (λ (k : ℕ). k + 8) e in
     field_put (body ++ z) (at + 8) w mac xs ys zs o f s h (p ∙ sym (shown-zeros body 8 xs o)) q
     ∙ ap (λ (l : List Bool). shown l xs) (append_assoc body z (bits_of w mac))
+
+-- ---- a payload as its fields
+
+-- three fields that are written one behind the other say a payload
+pub says : (p : Payload) (f g h : Part) → bits_of f.bits f.value ++ (bits_of g.bits g.value ++ bits_of h.bits h.value) ≡ layout_of p
+    → f.bits ≤ 64 → g.bits ≤ 64 → h.bits ≤ 64 → Says p (f ∷ g ∷ h ∷ [])
+says p f g h e a b c = record {
+  bits = ap (λ (l : List Bool). bits_of f.bits f.value ++ (bits_of g.bits g.value ++ l)) (append-nil (bits_of h.bits h.value)) ∙ e;
+  words = words;
+}
+  where
+    words : All (λ (x : Part). x.bits ≤ 64) (f ∷ g ∷ h ∷ [])
+    words zero d l = a
+    words (suc zero) d l = b
+    words (suc (suc zero)) d l = c
+    words (suc (suc (suc k))) d l = absurd (omega arith)
+
+-- one field more
+pub parts_more : (fs : List Part) (i : ℕ) (d : Part) → i < length fs
+    → bits_of_parts (take (i + 1) fs) ≡ bits_of_parts (take i fs) ++ bits_of (get_or fs i d).bits (get_or fs i d).value
+parts_more fs i d h =
+    let f : Part → List Bool = λ x. bits_of x.bits x.value in
+    rw (take_more fs i d h, flat_map-append) (ap (λ (l : List Bool). bits_of_parts (take i fs) ++ l) (append-nil (f (get_or fs i d))))

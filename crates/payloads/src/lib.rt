@@ -3,12 +3,12 @@
 // `requires`: a field past a slice's end is zero, and what has no room is dropped.
 #![tactic(auto)]
 
-ghost use Rattle.std.specs.Prelude.{◌≡◌, ◌++◌, ◌≤◌, ◌<◌, length};
+ghost use Rattle.std.specs.Prelude.{◌≡◌, [], ◌∷◌, ◌++◌, ◌≤◌, ◌<◌, length};
 ghost use Rattle.bits.specs.Bits.{bits_of};
 ghost use Rattle.bits.specs.Bytes.{bits_of_bytes, field_of};
 ghost use Rattle.bits.specs.Area.{shown};
 ghost use Rattle.payloads.specs.Parts.{Says};
-ghost use Rattle.payloads.specs.Payloads.{layout_of, fields_in, features_in, status_in, data_bits, zeros_of, length_fits, mac_bits, securing, supports, offers, supports_start, beyond_of};
+ghost use Rattle.payloads.specs.Payloads.{layout_of, fields_in, features_in, status_in, data_bits, zeros_of, length_fits, has_bit, mac_bits, securing, supports, offers, supports_start, beyond_of};
 
 // No message has more data bits.
 pub const DATA_BITS: usize = 2048;
@@ -17,7 +17,7 @@ pub const DATA_BITS: usize = 2048;
 pub const NUMBER_LIMIT: u64 = 1 << 48;
 
 // The fields that both authentication commands begin with.
-#[derive(Clone, Copy)]
+#[derive(Clone, Copy, Debug, PartialEq, Eq)]
 pub struct Fields {
     pub method: u8,
     pub step: u8,
@@ -25,7 +25,7 @@ pub struct Fields {
     pub keyid: u8,
 }
 
-// An authentication's payload, by its fields.
+// An authentication's payload, by its fields. Some hold keystream bits, so it derives no `==`, which would branch on them.
 #[derive(Clone, Copy)]
 pub enum Payload {
     StepZero {
@@ -54,15 +54,22 @@ pub enum Payload {
     Nothing,
 }
 
-// Three fields, one behind the other: x in a bits, y in b and z in c.
+// A field of a payload that is written: its width in bits, and its value.
 #[derive(Clone, Copy)]
-struct Parts {
-    a: usize,
-    x: u64,
-    b: usize,
-    y: u64,
-    c: usize,
-    z: u64,
+struct Part {
+    bits: usize,
+    value: u64,
+}
+
+impl Part {
+    // No field.
+    const NONE: Part = Part { bits: 0, value: 0 };
+
+    fn new(bits: usize, value: u64) -> Part
+        ensures { result ≡ record { bits = bits; value = value } }
+    {
+        Part { bits, value }
+    }
 }
 
 // Whether a bit count goes beyond the slice.
@@ -105,15 +112,17 @@ pub fn write(p: Payload, out: &mut [u8]) -> usize
     ensures value { result ≡ length (layout_of p) }
     ensures out_after { out.new ≡ shown (layout_of p) out.old }
 {
-    let f = fields_of(p);
     bits::clear(out);
-    bits::put(out, 0, f.a, f.x);
-    bits::put(out, f.a, f.b, f.y);
-    bits::put(out, f.a + f.b, f.c, f.z);
-    f.a + f.b + f.c
+    let mut at = 0;
+    for part in parts_of(p) {
+        bits::put(out, at, part.bits, part.value);
+        at += part.bits;
+    }
+    at
 }
 
-fn fields_of(p: Payload) -> Parts
+// A payload's fields, one behind the other. There are three at most.
+fn parts_of(p: Payload) -> [Part; 3]
     ensures { Says p result }
 {
     match p {
@@ -122,29 +131,35 @@ fn fields_of(p: Payload) -> Parts
             options,
             keyid,
             number,
-        } => three(8, head(method, 0, options), 8, keyid as u64, 48, number),
+        } => command(head(method, 0, options), keyid, Part::new(48, number)),
         Payload::StepOne {
             method,
             options,
             keyid,
             keystream,
-        } => three(8, head(method, 1, options), 8, keyid as u64, 64, keystream),
+        } => command(head(method, 1, options), keyid, Part::new(64, keystream)),
         Payload::TagProof {
             features,
             number,
             keystream,
-        } => three(8, features as u64, 48, number, 64, keystream),
-        Payload::TagChallenge { features, number } => three(8, features as u64, 48, number, 0, 0),
-        Payload::Status(s) => three(1, s as u64, 0, 0, 0, 0),
-        Payload::MutualProof(keystream) => three(1, 0, 64, keystream, 0, 0),
-        Payload::Nothing => three(0, 0, 0, 0, 0, 0),
+        } => challenge(features, number, Part::new(64, keystream)),
+        Payload::TagChallenge { features, number } => challenge(features, number, Part::NONE),
+        Payload::Status(s) => [Part::new(1, s as u64), Part::NONE, Part::NONE],
+        Payload::MutualProof(keystream) => [Part::new(1, 0), Part::new(64, keystream), Part::NONE],
+        Payload::Nothing => [Part::NONE, Part::NONE, Part::NONE],
     }
 }
 
-fn three(a: usize, x: u64, b: usize, y: u64, c: usize, z: u64) -> Parts
-    ensures { result ≡ record { a = a; x = x; b = b; y = y; c = c; z = z } }
+fn command(head: u64, keyid: u8, last: Part) -> [Part; 3]
+    ensures { result ≡ record { bits = 8; value = head } ∷ record { bits = 8; value = keyid } ∷ last ∷ [] }
 {
-    Parts { a, x, b, y, c, z }
+    [Part::new(8, head), Part::new(8, keyid as u64), last]
+}
+
+fn challenge(features: u8, number: u64, last: Part) -> [Part; 3]
+    ensures { result ≡ record { bits = 8; value = features } ∷ record { bits = 48; value = number } ∷ last ∷ [] }
+{
+    [Part::new(8, features as u64), Part::new(48, number), last]
 }
 
 // The first byte of an authentication command: method, step, options.
@@ -173,15 +188,12 @@ fn small_field(s: &[u8], at: usize, w: usize) -> u8
 pub fn data_bits(w: usize, count: usize) -> usize
     ensures { result ≡ data_bits w count }
 {
-    if count < 8 {
-        return 0;
-    }
-    let rest = count - 8;
-    if rest < w { 0 } else { rest - w }
+    count.saturating_sub(8).saturating_sub(w)
 }
 
 // Whether its eight zero bits are zero. They are in the clear also in a secure message, so they are looked at before anything is
 // decrypted.
+#[tactic(auto, unfolding(crate::specs::Payloads::zeros_of))]
 pub fn zeros(w: u8, payload: &[u8], count: usize) -> bool
     ensures { result ≡ zeros_of w count (bits_of_bytes payload.now) }
 {
@@ -199,47 +211,48 @@ pub fn length_fits(w: u8, count: usize) -> bool
 
 // ---- options and features
 
+// The bit at `k`, the lowest at 0.
+fn bit(x: u8, k: u8) -> bool
+    requires { k < 8 }
+    ensures { result ≡ has_bit k x }
+{
+    (x >> k) & 1 == 1
+}
+
 // The bits of the MAC that options choose.
 pub fn mac_bits(options: u8) -> u8
     ensures { result ≡ mac_bits options }
 {
-    let wide = (options >> 0) % 2 == 1;
-    if wide { 64 } else { 32 }
+    if bit(options, 0) { 64 } else { 32 }
 }
 
 // Whether options ask for secure messages.
 pub fn secure(options: u8) -> bool
     ensures { result ≡ securing options }
 {
-    (options >> 1) % 2 == 1
+    bit(options, 1)
 }
 
 // Whether features support options.
 pub fn supported(features: u8, options: u8) -> bool
     ensures { result ≡ supports features options }
 {
-    let wide = (options >> 0) % 2 == 1;
-    let secure = (options >> 1) % 2 == 1;
-    let mac32 = (features >> 2) % 2 == 1;
-    let mac64 = (features >> 3) % 2 == 1;
-    let offered = (features >> 4) % 2 == 1;
-    (options < 4) & ((wide & mac64) | (!wide & mac32)) & (!secure | offered)
+    let wide = bit(options, 0);
+    let mac = (wide & bit(features, 3)) | (!wide & bit(features, 2));
+    (options < 4) & mac & (!secure(options) | bit(features, 4))
 }
 
 // Whether features offer a method: its own bit.
 pub fn offered(features: u8, method: u8) -> bool
     ensures { result ≡ offers features method }
 {
-    let ta = (features >> 0) % 2 == 1;
-    let ia = (features >> 1) % 2 == 1;
-    ((method == 0) & ta) | ((method == 1) & ia) | (method == 2)
+    ((method == 0) & bit(features, 0)) | ((method == 1) & bit(features, 1)) | (method == 2)
 }
 
 // Whether they support a method's step 0.
 pub fn start_supported(features: u8, method: u8, options: u8) -> bool
     ensures { result ≡ supports_start features method options }
 {
-    let own = offered(features, method);
-    let chosen = supported(features, options);
-    own & (((method == 0) & chosen) | (!(method == 0) & (options == 0)))
+    let ta = method == 0;
+    offered(features, method) & ((ta & supported(features, options)) | (!ta & (options == 0)))
 }

@@ -1,31 +1,48 @@
--- `payloads::write` meets its contract.
 use mathlib.Core.Path.{◌≡◌, refl, sym, ap, ◌∙◌}
 use mathlib.Core.Bool.{Bool}
-use mathlib.Core.List.{List, [], ◌++◌, append_assoc}
-use Prim.Native.Nat.{◌+◌, ◌≤◌}
+use mathlib.Core.List.{List}
+use Prim.Native.Nat.{◌+◌, ◌≤◌, ◌<◌}
 use native.Mathlib.Omega.{arith}
-use lib.ListN.{length, length-append}
-use Rattle.bits.specs.Bits.{bits_of}
+use lib.ListN.{length, get_or, take, length-append}
+use lib.Seq.{take_all}
+use borrow.Author.Rules.{rules}
 use Rattle.bits.specs.Area.{shown}
 use Rattle.bits.proofs.Numbers.{length-bits_of}
 use Rattle.bits.proofs.Replies.{field_put}
+use Rattle.payloads.specs.declared.Part.{Part}
+use Rattle.payloads.specs.Parts.{bits_of_parts}
+use Rattle.payloads.proofs.Layouts.{parts_more}
 use Rattle.payloads.proofs.write.Goals as goal
+
+pub loop-part-init : goal.loop-part-init
+loop-part-init c = record { small = omega arith; place = refl; area = c.clear.ensures }
+
+pub overflow_add-at : goal.overflow_add-at
+overflow_add-at c =
+    let l = c.loop-part in
+    let n : l.part-index < length c.parts_of-part-items.result = search rules in
+    let w = c.parts_of-part-items.ensures.words l.part-index (record { bits = 0; value = 0 }) n in
+    record { fits = omega (arith, w, l.invariant.small) }
+
+pub loop-part-preserved : goal.loop-part-preserved
+loop-part-preserved c =
+    let l = c.loop-part in
+    let fs = c.parts_of-part-items.result in
+    let d : Part = record { bits = 0; value = 0 } in
+    let n : l.part-index < length fs = search rules in
+    let f = get_or fs l.part-index d in
+    let w : f.bits ≤ 64 = c.parts_of-part-items.ensures.words l.part-index d n in
+    let more = parts_more fs l.part-index d n in
+    let put = field_put (bits_of_parts (take l.part-index fs)) l.at f.bits f.value c.args.out.now l.out _ c.slice_known-1.given (sym l.invariant.place) w (omega arith) l.invariant.area c.put.ensures in
+    record {
+      small = omega arith;
+      place = rw more (simp (length-append, length-bits_of) (ap (λ n. n + f.bits) l.invariant.place));
+      area = rw more put;
+    }
 
 pub returns : goal.returns
 returns c =
-    let s = c.fields_of-f.ensures in
-    let f = c.fields_of-f.result in
-    let xs = c.args.out.now in
-    let o = c.slice_known-1.given in
-    let ia : f.a ≤ 64 = s.a in
-    let ib : f.b ≤ 64 = s.b in
-    let ic : f.c ≤ 64 = s.c in
-    let g : List Bool = bits_of f.a f.x in
-    let h : List Bool = bits_of f.b f.y in
-    let k : List Bool = bits_of f.c f.z in
-    let n : length (g ++ h) ≡ f.a + f.b = simp (length-append, length-bits_of) in
-    let m : length (g ++ (h ++ k)) ≡ f.a + f.b + f.c = simp (length-append, length-bits_of) (omega arith) in
-    let e1 = field_put [] 0 f.a f.x xs _ _ o refl ia (omega arith) c.clear.ensures c.put.ensures in
-    let e2 = field_put g f.a f.b f.y xs _ _ o (length-bits_of _ _) ib (omega arith) e1 c.put-2.ensures in
-    let e3 = field_put (g ++ h) (f.a + f.b) f.c f.z xs _ _ o n ic (omega arith) e2 c.put-3.ensures in
-    record { value = sym m ∙ ap length s.bits; out_after = e3 ∙ ap (λ (l : List Bool). shown l xs) (append_assoc g h k ∙ s.bits) }
+    let l = c.loop-part in
+    let fs = c.parts_of-part-items.result in
+    let a : bits_of_parts (take l.part-index fs) ≡ _ = ap bits_of_parts (take_all l.part-index fs (search rules)) ∙ c.parts_of-part-items.ensures.bits in
+    record { value = l.invariant.place ∙ ap length a; out_after = l.invariant.area ∙ ap (λ (l : List Bool). shown l c.args.out.now) a }
