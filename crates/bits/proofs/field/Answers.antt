@@ -1,35 +1,49 @@
-use mathlib.Core.Path.{◌≡◌, sym}
-use mathlib.Core.Bool.{false}
-use Prim.Native.Nat.{◌+◌, ◌*◌, ◌/◌, ◌%◌, ◌<◌, ◌^◌}
-use lib.ListN.{get_or}
+-- `bits::field` meets its contract.
+use mathlib.Core.Path.{◌≡◌, sym, ap, ◌∙◌}
+use mathlib.Core.Bool.{Bool, false}
+use mathlib.Core.List.{List}
+use Prim.Native.Nat.{ℕ, zero, suc, ◌+◌, ◌*◌, ◌/◌, ◌%◌, ◌≤◌, ◌<◌, ◌^◌}
+use native.Mathlib.Nat.{add-zero, lt_of_lt_of_le, mod-eq_of_lt}
 use native.Mathlib.Omega.{arith}
-use native.Mathlib.Nat.{lt_of_lt_of_le}
+use lib.Bits.{bit_or, or_shifted}
+use lib.ListN.{get_or}
 use lib.Pow.{pow_mono}
-use Rattle.bits.specs.Bytes.{bits_of_bytes}
+use mir.Val.{bool_byte}
+use Rattle.std.proofs.Common.{rules}
+use Rattle.std.specs.List.{fold, range_with_len}
+use Rattle.std.proofs.lemmas.Iterator.{YieldsList-from_range}
+use Rattle.std.proofs.lemmas.Iterator.Consumers.{fold_from_yields_List}
+use Rattle.bits.specs.Bytes.{bits_of_bytes, field_of, word_bits}
 use Rattle.bits.proofs.Words.{byte-num}
 use Rattle.bits.proofs.Numbers.{num-lt}
 use Rattle.bits.proofs.Bytes.{field-none, field_more, field_lt}
-use borrow.Author.Rules.{rules}
 use Rattle.bits.proofs.field.Goals as goal
 
-small : (c : goal.After-bit_from-b) → c.loop-k.x < 2 ^ 63
-small c =
-    let l = c.loop-k in
-    rw l.invariant.1 (lt_of_lt_of_le (field_lt _ l.k _) (pow_mono {j = 63} (omega arith)))
+-- a turn: `x << 1 | b`, where b is the bit at `place + k` of the bytes from `from` on
+abbrev turned : List Bool → ℕ → ℕ → ℕ → ℕ → ℕ
+turned l from place x k = bit_or (x * 2 % 2 ^ 64) (bool_byte (get_or l (8 * from + (place + k)) false))
 
-pub loop-k-init : goal.loop-k-init
-loop-k-init c = (search rules, sym (field-none _ _))
+module _ (l : List Bool) (at : ℕ) where
+  turn : (k : ℕ) → k < 64 → turned l (at / 8) (at % 8) (field_of at k l) k ≡ field_of at (k + 1) l
+  turn k h =
+      let e : 8 * (at / 8) + (at % 8 + k) ≡ at + k = omega arith in
+      let s : field_of at k l * 2 < 2 ^ 64 = omega (arith, lt_of_lt_of_le (field_lt at k l) (pow_mono {j = 63} (omega arith))) in
+      rw (e, mod-eq_of_lt s, byte-num, field_more) (or_shifted (field_of at k l) 1 _ (num-lt _))
 
-pub overflow_mul-x : goal.overflow_mul-x
-overflow_mul-x c = let h = small c in omega arith
+  fields : (n k : ℕ) → k + n ≤ 64 → fold (turned l (at / 8) (at % 8)) (field_of at k l) (range_with_len k n) ≡ field_of at (k + n) l
+  fields zero k h = ap (λ i. field_of at i l) (sym (add-zero k))
+  fields (suc n) k h =
+      let e : k + 1 + n ≡ k + suc n = omega arith in
+      ap (λ x. fold (turned l (at / 8) (at % 8)) x (range_with_len (k + 1) n)) (turn k (omega arith))
+      ∙ fields n (k + 1) (omega arith) ∙ ap (λ i. field_of at i l) e
 
-pub overflow_add-x : goal.overflow_add-x
-overflow_add-x c = let h = small c in rw byte-num (omega (arith, num-lt c.bit_from-b.result))
-
-pub loop-k-preserved : goal.loop-k-preserved
-loop-k-preserved c =
+pub returns : goal.returns
+returns c =
     let a = c.args in
-    let l = c.loop-k in
-    let e : 8 * (a.at / 8) + (a.at % 8 + l.k) ≡ a.at + l.k = omega arith in
-    let b : c.bit_from-b.result ≡ get_or (bits_of_bytes a.s.now) (a.at + l.k) false = rw e at c.bit_from-b.ensures in
-    (search rules, rw (byte-num, l.invariant.1, b) (sym (field_more a.at l.k (bits_of_bytes a.s.now))))
+    let l = bits_of_bytes a.s.now in
+    let n = c.word_bits.result in
+    let f = turned l (a.at / 8) (a.at % 8) in
+    let e : 0 + n ≡ word_bits a.w = omega (arith, c.word_bits.ensures) in
+    fold_from_yields_List _ f _ _ c.fold.ensures.ran (YieldsList-from_range 0 n n (cc) (omega arith)) (λ x k b q h. search rules)
+    ∙ ap (λ x. fold f x (range_with_len 0 n)) (sym (field-none a.at l))
+    ∙ fields l a.at n 0 (omega (arith, c.word_bits.ensures)) ∙ ap (λ i. field_of a.at i l) e
