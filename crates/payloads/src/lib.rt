@@ -16,7 +16,8 @@ pub const DATA_BITS: usize = 2048;
 // A number at or above it is refused with 11: it has 48 bits.
 pub const NUMBER_LIMIT: u64 = 1 << 48;
 
-// The fields that both authentication commands begin with.
+// The fields that both authentication commands begin with. Bytes and no enums: they are what came, and a call answers them all
+// (`demand1_tag`).
 #[derive(Clone, Copy, Debug, PartialEq, Eq)]
 pub struct Fields {
     pub method: u8,
@@ -25,7 +26,8 @@ pub struct Fields {
     pub keyid: u8,
 }
 
-// An authentication's payload, by its fields. Some hold keystream bits, so it derives no `==`, which would branch on them.
+// An authentication's payload, by its fields: bytes of any value, of which `layout_of` takes the low bits. Some hold keystream
+// bits, so it derives no `==`, which would branch on them.
 #[derive(Clone, Copy)]
 pub enum Payload {
     StepZero {
