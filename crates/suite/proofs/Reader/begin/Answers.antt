@@ -5,12 +5,12 @@ use Rattle.book.proofs.Laws.{key-length}
 use Rattle.machines.specs.ReaderWork.{begin_of}
 use Rattle.suite.proofs.Reader.begin.Goals as goal
 
-pub returns-in-Refuse : goal.returns-in-Refuse
+pub returns-in-Err : goal.returns-in-Err
 unfolding begin_of decided
-returns-in-Refuse c =
-    rw (sym (rw (c.sound.ensures, c.find-key.ensures, key-length) at c.in-Refuse.ensures)) c.refuse.ensures
+returns-in-Err c =
+    rw (sym (rw (c.sound.ensures, c.find-key.ensures, key-length) at c.in-Err.ensures)) c.refuse.ensures
 
-pub returns-in-Go : goal.returns-in-Go
+pub returns-in-Ok : goal.returns-in-Ok
 unfolding begin_of decided
-returns-in-Go c =
-    rw (sym (rw (c.sound.ensures, c.find-key.ensures, key-length) at c.in-Go.ensures)) (rw (c.begin-o.ensures, c.find-key.ensures) at c.say.ensures)
+returns-in-Ok c =
+    rw (sym (rw (c.sound.ensures, c.find-key.ensures, key-length) at c.in-Ok.ensures)) (rw (c.begin-o.ensures, c.find-key.ensures) at c.say.ensures)
