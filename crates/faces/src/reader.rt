@@ -32,6 +32,7 @@ fn row(idle: bool, asked: bool, proving: bool, opened: bool) -> StageRow
 // ---- the stored state
 
 // Whether the public parts are those of some state; the secret parts are not asked here.
+#[tactic(auto, unfolding(crate::specs::ReaderFaces::reader_fits))]
 pub fn face_fits(f: ReaderFace) -> bool
     ensures { result ≡ reader_fits f }
 {

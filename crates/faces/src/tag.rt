@@ -61,6 +61,7 @@ fn opened(ta: bool, ia: bool) -> Row
 // ---- the stored state
 
 // Whether the public parts are those of some state; the secret parts are not asked here.
+#[tactic(auto, unfolding(crate::specs::TagFaces::face_fits))]
 pub fn face_fits(f: Face) -> bool
     ensures { result ≡ face_fits f }
 {
@@ -109,6 +110,7 @@ pub fn mutually(f: Face) -> bool
 }
 
 // The error type of Annex B's table: 1, 2 or 3; 0 where there is no error.
+#[tactic(auto, unfolding(crate::specs::TagFaces::error_type))]
 pub fn error_type(f: Face) -> u8
     ensures { result ≡ error_type f }
 {

@@ -172,23 +172,10 @@ pub fn message_shown(kind: u8, payload: &[u8], count: usize, room: usize) -> Sho
     }
 }
 
-impl Answer {
-    pub fn number(self) -> u8
-        ensures { result ≡ number_of self }
-    {
-        match self {
-            Answer::Done => 0,
-            Answer::BadBook => 1,
-            Answer::SmallBuffer => 2,
-            Answer::WrongKind => 3,
-            Answer::Unsupported => 4,
-            Answer::UnknownKey => 5,
-            Answer::WrongLength => 6,
-            Answer::Closed => 7,
-            Answer::BadState => 8,
-            Answer::NoWork => 9,
-            Answer::Mismatch => 10,
-            Answer::BadArgument => 11,
-        }
+impl From<Answer> for u8 {
+    ghost from_gives = { λ answer n. n ≡ number_of answer };
+
+    fn from(answer: Answer) -> u8 {
+        answer as u8
     }
 }

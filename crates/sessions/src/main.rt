@@ -269,7 +269,7 @@ fn print_heading(rt: &impl Print, heading: &[u8]) {
 fn print_call(rt: &impl Print, name: &[u8], answer: Answer, count: usize, reply: &[u8]) {
     let mut line = [0u8; LINE_BYTES];
     let at = text::put(&mut line, 0, name);
-    let at = text::spaced(&mut line, at, answer.number() as u64);
+    let at = text::spaced(&mut line, at, u8::from(answer) as u64);
     let at = text::spaced(&mut line, at, count as u64);
     let at = text::reply(&mut line, at, reply, count);
     console::print(rt, &mut line, at);

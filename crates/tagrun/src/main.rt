@@ -112,7 +112,7 @@ fn print_step(rt: &impl Print, number: u64, step: Step, reply: &[u8]) {
     let name = step.next.state.face().name;
     let mut line = [0u8; LINE_BYTES];
     let at = text::spaced(&mut line, 0, number);
-    let at = text::spaced(&mut line, at, answer.number() as u64);
+    let at = text::spaced(&mut line, at, u8::from(answer) as u64);
     let at = put_name(&mut line, at, name);
     let at = text::spaced(&mut line, at, step.bits as u64);
     let at = text::reply(&mut line, at, reply, step.bits);

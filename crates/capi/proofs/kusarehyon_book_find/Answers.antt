@@ -24,4 +24,4 @@ pub returns : goal.returns
 unfolding find_called
 returns c =
     rw (le-ltb _ _ c.if-reply-lt-AREA_BYTES.false, granted _ c.sound.ensures c.if-not-sound.false, known _ _ _ c.find-key.ensures c.if-key-ne-KEY_BYTES.false)
-    (key-given _ _ _ c.find-key.ensures _ _ _ c.if-key-ne-KEY_BYTES.false c.number.ensures c.show.ensures)
+    (key-given _ _ _ c.find-key.ensures _ _ _ c.if-key-ne-KEY_BYTES.false c.from.ensures c.show.ensures)
