@@ -97,7 +97,8 @@ pub by_order : (P : Verdict → Type 0) (k : Keeping) (c : Closing) → ((a : An
     → ((a : Answer) → Plain a → Kept k → P (close a)) → (Passed k c → P (Ok tt)) → P (verdict_of k c)
 by_order P k c kept closed go = at (verdict_of k c) refl (never_odd k c)
   where
-    refused : (closes : Bool) (a : Answer) → verdict_of k c ≡ Err (record { closes = closes; answer = a }) → special a ≡ false → P (Err (record { closes = closes; answer = a }))
+    refused : (closes : Bool) (a : Answer) → verdict_of k c ≡ Err (record { closes = closes; answer = a }) → special a ≡ false
+        → P (Err (record { closes = closes; answer = a }))
     refused false a e n = kept a (plain a n)
     refused true a e n = closed a (plain a n) (unkept k c (ap keeps_in e))
 

@@ -55,7 +55,7 @@ verdict_of k c =
 
 -- "closed (begin: kept)": the same refusals, and each keeps the state
 unfoldable pub kept : Verdict → Verdict
-kept (Ok go) = Ok go
+kept (Ok tt) = Ok tt
 kept (Err r) = keep r.answer
 
 -- 8, "a stored state against the rules", stands first. It asks about the stored state alone, and so stands around the other checks,

@@ -49,7 +49,7 @@ differed s reply = record { next = s; answer = Mismatch; reply = reply }
 
 -- the table's "kept" and "closed", from a state and what it is closed; "next" is the work's
 unfoldable pub decided : {S : Type 0} → Verdict → S → S → Result S → Result S
-decided (Ok go) s closed work = work
+decided (Ok tt) s closed work = work
 decided (Err r) s closed work = refused_by (cond r.closes closed s) r.answer
 
 -- "Every call writes all of it: the reply's bits, then zeros. Bytes beyond stay as found"; the step handed back is the result's

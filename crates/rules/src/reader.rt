@@ -16,8 +16,7 @@ use payloads::{DATA_BITS, NUMBER_LIMIT};
 pub fn begin_verdict(f: ReaderFace, p: ShownBegin) -> Verdict
     ensures { result ≡ begin_verdict f p }
 {
-    let stage = f.stage;
-    let row = faces::reader::stage_row(stage);
+    let row = faces::reader::stage_row(f.stage);
     let keeping = Keeping {
         buffer: p.room < AREA_BYTES,
         argument: NUMBER_LIMIT <= p.number,
@@ -54,8 +53,7 @@ pub fn reply_shown(payload: &[u8], count: usize, room: usize) -> ShownReply
 pub fn reply_verdict(f: ReaderFace, p: ShownReply) -> Verdict
     ensures { result ≡ reply_verdict f p }
 {
-    let stage = f.stage;
-    let row = faces::reader::stage_row(stage);
+    let row = faces::reader::stage_row(f.stage);
     let keeping = Keeping {
         buffer: p.room < AREA_BYTES,
         argument: p.beyond,
@@ -82,9 +80,9 @@ fn reply_closing(row: StageRow, f: ReaderFace, p: ShownReply) -> Closing
 fn reply_length(row: StageRow, method: u8, count: usize, status: u8) -> bool
     ensures { result ≡ reply_length row method count status }
 {
-    let first = ((method == TA) & (count == 120)) | (!(method == TA) & (count == 56));
+    let first = ((method == TA) & (count == 120)) | ((method != TA) & (count == 56));
     let confirmed = ((count == 1) & (status == 1)) | ((count == 65) & (status == 0));
-    let second = ((method == IA) & (count == 1)) | (!(method == IA) & confirmed);
+    let second = ((method == IA) & (count == 1)) | ((method != IA) & confirmed);
     (row.asked & first) | (row.proving & second)
 }
 
@@ -93,8 +91,7 @@ fn reply_length(row: StageRow, method: u8, count: usize, status: u8) -> bool
 pub fn reply_work(f: ReaderFace, status: u8) -> ReplyWork
     ensures { result ≡ reply_work f status }
 {
-    let stage = f.stage;
-    let row = faces::reader::stage_row(stage);
+    let row = faces::reader::stage_row(f.stage);
     if row.asked {
         if f.method == TA {
             return ReplyWork::Compare;
@@ -116,8 +113,7 @@ pub fn reply_work(f: ReaderFace, status: u8) -> ReplyWork
 pub fn send_verdict(f: ReaderFace, p: ShownMessage) -> Verdict
     ensures { result ≡ send_verdict f p }
 {
-    let stage = f.stage;
-    let row = faces::reader::stage_row(stage);
+    let row = faces::reader::stage_row(f.stage);
     let may = may_talk(row, f, TA, p.kind);
     let keeping = Keeping {
         buffer: p.room < AREA_BYTES,
@@ -139,8 +135,7 @@ fn send_closing() -> Closing
 pub fn receive_verdict(f: ReaderFace, p: ShownMessage, zeros: bool) -> Verdict
     ensures { result ≡ receive_verdict f p zeros }
 {
-    let stage = f.stage;
-    let row = faces::reader::stage_row(stage);
+    let row = faces::reader::stage_row(f.stage);
     let may = may_talk(row, f, IA, p.kind);
     let fits = payloads::length_fits(f.width, p.count);
     let keeping = Keeping {
@@ -161,5 +156,5 @@ fn may_talk(row: StageRow, f: ReaderFace, silent: u8, kind: u8) -> bool
     ensures { result ≡ may_talk row f silent kind }
 {
     let enabled = payloads::secure(f.options);
-    row.opened & !(f.method == silent) & (!(kind == SECURE) | ((f.method == MA) & enabled))
+    row.opened & (f.method != silent) & ((kind != SECURE) | ((f.method == MA) & enabled))
 }

@@ -29,8 +29,7 @@ pub fn key_under(kind: u8, keyid: u8, book: &[u8]) -> &[u8]
 pub fn command_verdict(f: Face, p: Shown) -> Verdict
     ensures { result ≡ command_verdict f p }
 {
-    let name = f.name;
-    let row = faces::tag::row_of(name);
+    let row = faces::tag::row_of(f.name);
     let keeping = command_keeping(row, f, p);
     let closing = command_closing(row, f, p);
     order::verdict(keeping, closing)
@@ -69,42 +68,54 @@ fn command_closing(row: Row, f: Face, p: Shown) -> Closing
 fn kind_wanted(row: Row, options: u8, kind: u8) -> bool
     ensures { result ≡ kind_wanted row options kind }
 {
-    let secure = payloads::secure(options);
-    ((kind == AUTHENTICATION) & (0 < row.bits))
-        | ((kind == COMM) & row.comm)
-        | ((kind == SECURE) & (row.secure & secure))
+    match kind {
+        AUTHENTICATION => 0 < row.bits,
+        COMM => row.comm,
+        SECURE => row.secure & payloads::secure(options),
+        _ => false,
+    }
 }
 
 fn wrong_length(row: Row, width: u8, p: Shown) -> bool
     ensures { result ≡ wrong_length row width p }
 {
-    let auth = p.kind == AUTHENTICATION;
-    let fits = payloads::length_fits(width, p.count);
-    (auth & !(p.count == row.bits)) | (!auth & !(fits & p.zeros))
+    if p.kind == AUTHENTICATION {
+        p.count != row.bits
+    } else {
+        !(payloads::length_fits(width, p.count) & p.zeros)
+    }
 }
 
 fn step_wanted(row: Row, method: u8, step: u8) -> bool
     ensures { result ≡ step_wanted row method step }
 {
-    let fresh = row.step == 0;
-    (step == row.step) & ((fresh & !(method == 3)) | (!fresh & (method == row.method)))
+    let own = if row.step == 0 {
+        method != 3
+    } else {
+        method == row.method
+    };
+    (step == row.step) & own
 }
 
 fn key_fits(row: Row, stored: u8, p: Shown) -> bool
     ensures { result ≡ key_fits row stored p }
 {
-    let fresh = row.step == 0;
-    (fresh & p.known) | (!fresh & (p.fields.keyid == stored))
+    if row.step == 0 {
+        p.known
+    } else {
+        p.fields.keyid == stored
+    }
 }
 
 fn options_supported(row: Row, p: Shown) -> bool
     ensures { result ≡ options_supported row p }
 {
-    let fresh = row.step == 0;
     let options = p.fields.options;
-    let start = payloads::start_supported(p.features, p.fields.method, options);
-    let later = payloads::supported(p.features, options);
-    (fresh & start) | (!fresh & later)
+    if row.step == 0 {
+        payloads::start_supported(p.features, p.fields.method, options)
+    } else {
+        payloads::supported(p.features, options)
+    }
 }
 
 // What is done where nothing is refused.
@@ -112,8 +123,7 @@ fn options_supported(row: Row, p: Shown) -> bool
 pub fn command_work(f: Face, kind: u8) -> Work
     ensures { result ≡ command_work f kind }
 {
-    let name = f.name;
-    let row = faces::tag::row_of(name);
+    let row = faces::tag::row_of(f.name);
     if kind != AUTHENTICATION {
         Work::Receive
     } else if row.step == 0 {
@@ -129,8 +139,7 @@ pub fn command_work(f: Face, kind: u8) -> Work
 pub fn response_verdict(f: Face, p: ShownMessage) -> Verdict
     ensures { result ≡ response_verdict f p }
 {
-    let name = f.name;
-    let row = faces::tag::row_of(name);
+    let row = faces::tag::row_of(f.name);
     let secure = payloads::secure(f.options);
     let keeping = Keeping {
         buffer: p.room < AREA_BYTES,
