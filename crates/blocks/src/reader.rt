@@ -48,7 +48,7 @@ pub fn store(block: &mut [u8], reader: ReaderState)
     let stage = face.stage;
     parts::put_head(
         block,
-        stage.number(),
+        u8::from(stage),
         face.method,
         face.options,
         face.keyid,
@@ -66,11 +66,5 @@ pub fn store(block: &mut [u8], reader: ReaderState)
 fn stage(n: u8) -> Stage
     ensures { result ≡ stage_of n }
 {
-    match n {
-        0 => Stage::Idle,
-        1 => Stage::Step0Sent,
-        2 => Stage::Step1Sent,
-        3 => Stage::Open,
-        _ => Stage::Closed,
-    }
+    Stage::try_from(n).unwrap_or(Stage::Closed)
 }

@@ -51,7 +51,7 @@ pub fn store(block: &mut [u8], tag: TagState)
     let name = face.name;
     parts::put_head(
         block,
-        name.number(),
+        u8::from(name),
         face.init as u8,
         face.ta as u8,
         face.ia as u8,
@@ -68,12 +68,5 @@ pub fn store(block: &mut [u8], tag: TagState)
 fn name(n: u8) -> Name
     ensures { result ≡ name_of n }
 {
-    match n {
-        0 => Name::CsReset,
-        1 => Name::Ta1,
-        2 => Name::Ia1,
-        3 => Name::Ia2,
-        4 => Name::Ma1,
-        _ => Name::Ma2,
-    }
+    Name::try_from(n).unwrap_or(Name::Ma2)
 }

@@ -79,21 +79,21 @@ pub fn kusarehyon_tag_close(state: &mut [u8]) -> u8
     ensures state_after { state.new ≡ closed_block state.old }
 {
     if !blocks::tag::spells(state) {
-        return Answer::BadState.number();
+        return u8::from(Answer::BadState);
     }
     let tag = Tag {
         state: blocks::tag::read(state),
     };
     let closed = tag.close();
     blocks::tag::store(state, closed.state);
-    Answer::Done.number()
+    u8::from(Answer::Done)
 }
 
 pub fn kusarehyon_tag_error_type(state: &[u8]) -> u8
     ensures { result ≡ error_type_called state.now }
 {
     if !blocks::tag::spells(state) {
-        return Answer::BadState.number();
+        return u8::from(Answer::BadState);
     }
     let tag = Tag {
         state: blocks::tag::read(state),
@@ -222,7 +222,7 @@ pub fn kusarehyon_book_find(book: &[u8], keyid: u8, reply: &mut [u8], bits: &mut
     };
     bits::show(reply, key, KEY_BITS);
     *bits = KEY_BITS;
-    Answer::Done.number()
+    u8::from(Answer::Done)
 }
 
 // ---- host frames
@@ -288,7 +288,7 @@ fn refused(answer: Answer, reply: &mut [u8], bits: &mut usize) -> u8
 {
     bits::clear(reply);
     *bits = 0;
-    answer.number()
+    u8::from(answer)
 }
 
 fn stepped(state: &mut [u8], step: Step, bits: &mut usize) -> u8
@@ -300,7 +300,7 @@ fn stepped(state: &mut [u8], step: Step, bits: &mut usize) -> u8
     let next = step.next;
     blocks::tag::store(state, next.state);
     *bits = step.bits;
-    answer.number()
+    u8::from(answer)
 }
 
 fn reader_stepped(state: &mut [u8], step: ReaderStep, bits: &mut usize) -> u8
@@ -312,5 +312,5 @@ fn reader_stepped(state: &mut [u8], step: ReaderStep, bits: &mut usize) -> u8
     let next = step.next;
     blocks::reader::store(state, next.state);
     *bits = step.bits;
-    answer.number()
+    u8::from(answer)
 }

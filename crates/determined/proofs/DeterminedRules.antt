@@ -10,8 +10,11 @@ use Rattle.determined.proofs.Determined.{part}
 
 -- ---- faces
 
-pub name-number : Determines FacesContracts.Name.number.ended Faces.Name.number.Reads.Post
+pub name-number : Determines FacesContracts.U8FromName.from.ended Faces.U8FromName.from.Reads.Post
 name-number κs a x y p q = part p q refl
+
+pub name-numbered : Determines FacesContracts.NameTryFromU8.try_from.ended Faces.NameTryFromU8.try_from.Reads.Post
+name-numbered κs a x y p q = part p q refl
 
 pub row_of_lem : Determines FacesContracts.tag.row_of.ended Faces.tag.row_of.Reads.Post
 row_of_lem κs a x y p q = part p q refl
@@ -28,8 +31,11 @@ face-mutually κs a x y p q = part p q refl
 pub face-error_type : Determines FacesContracts.tag.error_type.ended Faces.tag.error_type.Reads.Post
 face-error_type κs a x y p q = part p q refl
 
-pub stage-number : Determines FacesContracts.Stage.number.ended Faces.Stage.number.Reads.Post
+pub stage-number : Determines FacesContracts.U8FromStage.from.ended Faces.U8FromStage.from.Reads.Post
 stage-number κs a x y p q = part p q refl
+
+pub stage-numbered : Determines FacesContracts.StageTryFromU8.try_from.ended Faces.StageTryFromU8.try_from.Reads.Post
+stage-numbered κs a x y p q = part p q refl
 
 pub stage-row : Determines FacesContracts.reader.stage_row.ended Faces.reader.stage_row.Reads.Post
 stage-row κs a x y p q = part p q refl
@@ -48,7 +54,7 @@ if_sound_lem κs a x y p q = part p q refl
 pub message-shown : Determines RulesContracts.message_shown.ended Rules.message_shown.Reads.Post
 message-shown κs a x y p q = part p q refl
 
-pub answer-number : Determines RulesContracts.Answer.number.ended Rules.Answer.number.Reads.Post
+pub answer-number : Determines RulesContracts.U8FromAnswer.from.ended Rules.U8FromAnswer.from.Reads.Post
 answer-number κs a x y p q = part p q refl
 
 pub key_under_lem : DeterminesShown RulesContracts.tag.key_under.ended Rules.tag.key_under.Reads.Post (λ κs r. option_copied r)

@@ -1,10 +1,11 @@
 -- Document 01, "Reader machine": its states, and what the public parts of a stored state must be. Assumes nothing.
-use Rattle.std.specs.Prelude.{Bool, true, false, not, cond, ◌&&◌, ◌||◌, ℕ, ltb, eqb}
+use Rattle.std.specs.Prelude.{Bool, true, false, not, cond, ◌&&◌, ◌||◌, ℕ, ltb, eqb, Result, Ok, Err}
 use Rattle.payloads.specs.Payloads.{mac_bits, number_limit}
 use Rattle.faces.specs.declared.Stage.{Stage}
 use Rattle.faces.specs.declared.Stage.TheVariants.{Idle, Step0Sent, Step1Sent, Open, Closed}
 use Rattle.faces.specs.declared.StageRow.{StageRow}
 use Rattle.faces.specs.declared.ReaderFace.{ReaderFace}
+use Rattle.faces.specs.declared.Unnumbered.{Unnumbered}
 
 -- "States: idle, step 0 sent, step 1 sent (IA, MA), open, closed"
 abbrev pub stage_row : Stage → StageRow
@@ -21,6 +22,16 @@ stage_number Step0Sent = 1
 stage_number Step1Sent = 2
 stage_number Open = 3
 stage_number Closed = 4
+
+-- the stage that a number is of, if it is any's
+abbrev pub stage_numbered : ℕ → Result Stage Unnumbered
+stage_numbered n =
+    cond (eqb n 0) (Ok Idle)
+    (cond (eqb n 1) (Ok Step0Sent)
+    (cond (eqb n 2) (Ok Step1Sent)
+    (cond (eqb n 3) (Ok Open)
+    (cond (eqb n 4) (Ok Closed)
+    (Err (record {}))))))
 
 -- ---- what the public parts of a stored state must be: "At the reader: .."
 

@@ -1,11 +1,12 @@
 -- Document 01, "Tag machine": the table of states, what the public parts of a stored state must be, and Annex B's error types.
 -- Assumes nothing.
-use Rattle.std.specs.Prelude.{Bool, true, false, not, cond, ◌&&◌, ◌||◌, ℕ, ltb, eqb}
+use Rattle.std.specs.Prelude.{Bool, true, false, not, cond, ◌&&◌, ◌||◌, ℕ, ltb, eqb, Result, Ok, Err}
 use Rattle.std.specs.Bool.{beq}
 use Rattle.payloads.specs.Payloads.{mac_bits}
 use Rattle.faces.specs.declared.Name.{Name}
 use Rattle.faces.specs.declared.Name.TheVariants.{CsReset, Ta1, Ia1, Ia2, Ma1, Ma2}
 use Rattle.faces.specs.declared.Row.{Row}
+use Rattle.faces.specs.declared.Unnumbered.{Unnumbered}
 use Rattle.faces.specs.declared.Face.{Face}
 
 -- the table, a row for each state: its open flags (INIT, TA, IA); whether its two flags may both be false when closed; whether
@@ -29,6 +30,17 @@ name_number Ia1 = 2
 name_number Ia2 = 3
 name_number Ma1 = 4
 name_number Ma2 = 5
+
+-- the name that a number is of, if it is any's
+abbrev pub name_numbered : ℕ → Result Name Unnumbered
+name_numbered n =
+    cond (eqb n 0) (Ok CsReset)
+    (cond (eqb n 1) (Ok Ta1)
+    (cond (eqb n 2) (Ok Ia1)
+    (cond (eqb n 3) (Ok Ia2)
+    (cond (eqb n 4) (Ok Ma1)
+    (cond (eqb n 5) (Ok Ma2)
+    (Err (record {})))))))
 
 -- CS-Reset, the one state that takes step 0
 abbrev pub fresh : Row → Bool

@@ -6,13 +6,13 @@ pub mod reader;
 pub mod tag;
 
 ghost use Rattle.std.specs.Prelude.{◌≡◌};
-ghost use Rattle.faces.specs.TagFaces.{name_number};
-ghost use Rattle.faces.specs.ReaderFaces.{stage_number};
+ghost use Rattle.faces.specs.TagFaces.{name_number, name_numbered};
+ghost use Rattle.faces.specs.ReaderFaces.{stage_number, stage_numbered};
 
 // ---- the tag
 
-// Its states.
-#[derive(Clone, Copy)]
+// Its states, in the order of their numbers.
+#[derive(Clone, Copy, Debug, PartialEq, Eq)]
 pub enum Name {
     CsReset,
     Ta1,
@@ -23,7 +23,7 @@ pub enum Name {
 }
 
 // The public parts of its stored state: all that a verdict may look at.
-#[derive(Clone, Copy)]
+#[derive(Clone, Copy, Debug, PartialEq, Eq)]
 pub struct Face {
     pub name: Name,
     pub init: bool,
@@ -36,7 +36,7 @@ pub struct Face {
 }
 
 // A row of document 01's table of states; `specs/TagFaces.antt` says what each column is.
-#[derive(Clone, Copy)]
+#[derive(Clone, Copy, Debug, PartialEq, Eq)]
 pub struct Row {
     pub init: bool,
     pub ta: bool,
@@ -54,8 +54,8 @@ pub struct Row {
 
 // ---- the reader
 
-// Its states.
-#[derive(Clone, Copy)]
+// Its states, in the order of their numbers.
+#[derive(Clone, Copy, Debug, PartialEq, Eq)]
 pub enum Stage {
     Idle,
     Step0Sent,
@@ -65,7 +65,7 @@ pub enum Stage {
 }
 
 // The public parts of its stored state: all that a verdict may look at.
-#[derive(Clone, Copy)]
+#[derive(Clone, Copy, Debug, PartialEq, Eq)]
 pub struct ReaderFace {
     pub stage: Stage,
     pub method: u8,
@@ -76,7 +76,7 @@ pub struct ReaderFace {
 }
 
 // Where a stage stands: all false where it is closed.
-#[derive(Clone, Copy)]
+#[derive(Clone, Copy, Debug, PartialEq, Eq)]
 pub struct StageRow {
     pub idle: bool,
     pub asked: bool,
@@ -86,31 +86,57 @@ pub struct StageRow {
 
 // ---- the numbers of both
 
-impl Name {
-    pub fn number(self) -> u8
-        ensures { result ≡ name_number self }
-    {
-        match self {
-            Name::CsReset => 0,
-            Name::Ta1 => 1,
-            Name::Ia1 => 2,
-            Name::Ia2 => 3,
-            Name::Ma1 => 4,
-            Name::Ma2 => 5,
+impl From<Name> for u8 {
+    ghost from_gives = { λ name n. n ≡ name_number name };
+
+    fn from(name: Name) -> u8 {
+        name as u8
+    }
+}
+
+impl From<Stage> for u8 {
+    ghost from_gives = { λ stage n. n ≡ stage_number stage };
+
+    fn from(stage: Stage) -> u8 {
+        stage as u8
+    }
+}
+
+// A byte that is no state's number.
+#[derive(Clone, Copy, Debug, PartialEq, Eq)]
+pub struct Unnumbered;
+
+impl TryFrom<u8> for Name {
+    type Error = Unnumbered;
+
+    ghost try_from_gives = { λ n r. r ≡ name_numbered n };
+
+    fn try_from(n: u8) -> Result<Name, Unnumbered> {
+        match n {
+            0 => Ok(Name::CsReset),
+            1 => Ok(Name::Ta1),
+            2 => Ok(Name::Ia1),
+            3 => Ok(Name::Ia2),
+            4 => Ok(Name::Ma1),
+            5 => Ok(Name::Ma2),
+            _ => Err(Unnumbered),
         }
     }
 }
 
-impl Stage {
-    pub fn number(self) -> u8
-        ensures { result ≡ stage_number self }
-    {
-        match self {
-            Stage::Idle => 0,
-            Stage::Step0Sent => 1,
-            Stage::Step1Sent => 2,
-            Stage::Open => 3,
-            Stage::Closed => 4,
+impl TryFrom<u8> for Stage {
+    type Error = Unnumbered;
+
+    ghost try_from_gives = { λ n r. r ≡ stage_numbered n };
+
+    fn try_from(n: u8) -> Result<Stage, Unnumbered> {
+        match n {
+            0 => Ok(Stage::Idle),
+            1 => Ok(Stage::Step0Sent),
+            2 => Ok(Stage::Step1Sent),
+            3 => Ok(Stage::Open),
+            4 => Ok(Stage::Closed),
+            _ => Err(Unnumbered),
         }
     }
 }

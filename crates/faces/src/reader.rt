@@ -32,11 +32,11 @@ fn row(idle: bool, asked: bool, proving: bool, opened: bool) -> StageRow
 // ---- the stored state
 
 // Whether the public parts are those of some state; the secret parts are not asked here.
+#[tactic(auto, unfolding(crate::specs::ReaderFaces::reader_fits))]
 pub fn face_fits(f: ReaderFace) -> bool
     ensures { result ≡ reader_fits f }
 {
-    let stage = f.stage;
-    let row = stage_row(stage);
+    let row = stage_row(f.stage);
     let want = width_wanted(row, f.options);
     let bare = bare(f);
     let zeros = (f.method == 0) & (f.options == 0) & (f.keyid == 0) & (f.number == 0);
@@ -52,8 +52,7 @@ pub fn face_fits(f: ReaderFace) -> bool
 pub fn bare(f: ReaderFace) -> bool
     ensures { result ≡ reader_bare f }
 {
-    let stage = f.stage;
-    let row = stage_row(stage);
+    let row = stage_row(f.stage);
     !(row.asked | row.proving | row.opened)
 }
 
@@ -62,7 +61,8 @@ fn width_wanted(row: StageRow, options: u8) -> u8
 {
     let filled = row.proving | row.opened;
     if filled {
-        return payloads::mac_bits(options);
+        payloads::mac_bits(options)
+    } else {
+        0
     }
-    0
 }

@@ -61,11 +61,11 @@ fn opened(ta: bool, ia: bool) -> Row
 // ---- the stored state
 
 // Whether the public parts are those of some state; the secret parts are not asked here.
+#[tactic(auto, unfolding(crate::specs::TagFaces::face_fits))]
 pub fn face_fits(f: Face) -> bool
     ensures { result ≡ face_fits f }
 {
-    let name = f.name;
-    let row = row_of(name);
+    let row = row_of(f.name);
     let flags = flags_fit(row, f);
     let want = width_wanted(row, f.error, f.options);
     let bare = bare(f);
@@ -77,8 +77,7 @@ pub fn face_fits(f: Face) -> bool
 pub fn bare(f: Face) -> bool
     ensures { result ≡ bare f }
 {
-    let name = f.name;
-    let row = row_of(name);
+    let row = row_of(f.name);
     (row.step == 0) | f.error
 }
 
@@ -94,34 +93,33 @@ fn width_wanted(row: Row, error: bool, options: u8) -> u8
 {
     let filled = row.filled & !error;
     if filled {
-        return payloads::mac_bits(options);
+        payloads::mac_bits(options)
+    } else {
+        0
     }
-    0
 }
 
 // Whose step 1 a state waits for.
 pub fn mutually(f: Face) -> bool
     ensures { result ≡ mutually f }
 {
-    let name = f.name;
-    let row = row_of(name);
+    let row = row_of(f.name);
     row.method == 2
 }
 
 // The error type of Annex B's table: 1, 2 or 3; 0 where there is no error.
+#[tactic(auto, unfolding(crate::specs::TagFaces::error_type))]
 pub fn error_type(f: Face) -> u8
     ensures { result ≡ error_type f }
 {
-    let name = f.name;
-    let row = row_of(name);
-    if f.error {
-        if row.step == 0 {
-            return 1;
-        }
-        if row.fails & (!f.ta & !f.ia) {
-            return 2;
-        }
-        return 3;
+    let row = row_of(f.name);
+    if !f.error {
+        0
+    } else if row.step == 0 {
+        1
+    } else if row.fails & !f.ta & !f.ia {
+        2
+    } else {
+        3
     }
-    0
 }

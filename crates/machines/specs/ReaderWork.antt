@@ -11,8 +11,7 @@ use Rattle.rules.specs.declared.ReplyWork.TheVariants.{Compare, Answer, Fail, Ac
 use Rattle.rules.specs.Results.{Result, Outcome, done_by, compared_by, said, reached, differed, decided}
 use Rattle.rules.specs.declared.ShownBegin.{ShownBegin}
 use Rattle.rules.specs.declared.ShownReply.{ShownReply}
-use Rattle.rules.specs.declared.Verdict.{Verdict}
-use Rattle.rules.specs.Answers.{if_sound}
+use Rattle.rules.specs.Answers.{Verdict, if_sound}
 use Rattle.rules.specs.Calls.{Begin, Message, message_shown}
 use Rattle.rules.specs.ReaderRules.{begin_shown, begin_verdict, reply_shown, reply_verdict, reply_work, send_verdict, receive_verdict}
 use Rattle.states.specs.declared.reader.ReaderState.{ReaderState}

@@ -11,8 +11,7 @@ use Rattle.rules.specs.declared.Shown.{Shown}
 use Rattle.rules.specs.declared.Work.{Work}
 use Rattle.rules.specs.declared.Work.TheVariants.{Start, Prove, Receive}
 use Rattle.rules.specs.Results.{Result, Outcome, done_by, compared_by, said, reached, differed, decided}
-use Rattle.rules.specs.declared.Verdict.{Verdict}
-use Rattle.rules.specs.Answers.{if_sound}
+use Rattle.rules.specs.Answers.{Verdict, if_sound}
 use Rattle.rules.specs.Calls.{Command, Message, message_shown}
 use Rattle.faces.specs.TagFaces.{mutually, error_type}
 use Rattle.rules.specs.TagRules.{key_under, shown_of, command_verdict, command_work, response_verdict}

@@ -12,9 +12,7 @@ use Rattle.faces.specs.declared.Face.{Face}
 use Rattle.faces.specs.declared.Name.{Name}
 use Rattle.faces.specs.declared.Name.TheVariants.{CsReset, Ta1, Ia1, Ia2, Ma1, Ma2}
 use Rattle.faces.specs.TagFaces.{row_of, fresh, face_fits}
-use Rattle.rules.specs.declared.Verdict.{Verdict}
-use Rattle.rules.specs.declared.Verdict.TheVariants.{Go}
-use Rattle.rules.specs.Answers.{if_sound}
+use Rattle.rules.specs.Answers.{Verdict, if_sound}
 use Rattle.rules.specs.Calls.{Command}
 use Rattle.rules.specs.TagRules.{shown_of, kind_wanted, command_verdict}
 use Rattle.rules.proofs.Verdicts.{Passed, goes}
@@ -62,7 +60,7 @@ module _ (f : Face) (z : face_fits f ≡ true) (c : Command) (b : List ℕ)
     (h : Passed (keeping f z (shown_of f.width c (length b))) (closing f z (shown_of f.width c (length b)))) where
   passing : eqb (first_of (command_checks true f c (length b))) 0 ≡ true
   unfolding command_verdict
-  passing = ap (λ (n : ℕ). eqb n 0) (order_of f c (length b) Go (goes _ _ h))
+  passing = ap (λ (n : ℕ). eqb n 0) (order_of f c (length b) _ (goes _ _ h))
 
   wanted : kind_wanted (row_of f.name) f.options c.kind ≡ true
   unfolding shown_of

@@ -9,6 +9,7 @@ use lib.Dec.{eqb}
 use lib.ListN.{length, take, length-take}
 use lib.Seq.{take-take}
 use borrow.Author.Tests.{eqb-true, le-ltb, lt-ltb, not-false}
+use Rattle.std.specs.declared.result.Result.TheVariants.{Ok, Err}
 use Rattle.bits.specs.Bytes.{bits_of_bytes, field_of}
 use Rattle.bits.proofs.Bools.{neither}
 use Rattle.bits.proofs.Fields.{field-same}
@@ -24,10 +25,8 @@ use Rattle.faces.specs.declared.Name.{Name}
 use Rattle.faces.specs.declared.Name.TheVariants.{CsReset, Ta1, Ia1, Ia2, Ma1, Ma2}
 use Rattle.faces.specs.TagFaces.{row_of, fresh}
 use Rattle.rules.specs.declared.Shown.{Shown}
-use Rattle.rules.specs.declared.Verdict.{Verdict}
-use Rattle.rules.specs.declared.Verdict.TheVariants.{Refuse, Go}
 use Rattle.rules.specs.declared.Work.TheVariants.{Start, Prove, Receive}
-use Rattle.rules.specs.Answers.{if_sound}
+use Rattle.rules.specs.Answers.{Verdict, if_sound}
 use Rattle.rules.specs.Calls.{Command, Message}
 use Rattle.rules.specs.Results.{Result, said, decided, compared_by}
 use Rattle.rules.specs.TagRules.{key_under, shown_of, command_verdict, command_work}
@@ -83,13 +82,13 @@ beyond_alike {count} {xs} {ys} a =
     ]
 
 -- one verdict, and the same work where it goes
-pub decided-same : {S : Type 0} (u v : Verdict) (s closed : S) (x y : Result S) → u ≡ v → (u ≡ Go → x ≡ y) → decided u s closed x ≡ decided v s closed y
+pub decided-same : {S : Type 0} (u v : Verdict) (s closed : S) (x y : Result S) → u ≡ v → (u ≡ Ok tt → x ≡ y) → decided u s closed x ≡ decided v s closed y
 unfolding decided
 decided-same u v s closed x y e go = rw (← e) (at u refl)
   where
     at : (w : Verdict) → u ≡ w → decided w s closed x ≡ decided w s closed y
-    at (Refuse shuts a) h = refl
-    at Go h = go h
+    at (Err r) h = refl
+    at (Ok tt) h = go h
 
 -- ---- a message that came, at either machine
 
@@ -152,7 +151,7 @@ module _ (t : TagState) (c : Command) (slice b : List ℕ) (a : AlikeTo c.count 
   judged_same false e = refl
 
   -- the work of a command that has passed, by the state's name and whether it is an authentication
-  module _ (well : sound_of t ≡ true) (go : command_verdict f p ≡ Go) where
+  module _ (well : sound_of t ≡ true) (go : command_verdict f p ≡ Ok tt) where
     abbrev key : List Bool → List ℕ
     key m = key_under c.kind (key_id_in m) c.book
 

@@ -7,6 +7,7 @@ use native.Mathlib.Omega.{arith}
 use lib.Dec.{eqb}
 use lib.ListN.{drop, get_or, replicate}
 use borrow.Author.Tests.{ne_eqb}
+use Rattle.std.specs.declared.result.Result.TheVariants.{Ok}
 use Rattle.bits.specs.Area.{shown}
 use Rattle.bits.specs.Bits.{bits_of, digit, num_of}
 use Rattle.bits.specs.Bytes.{bits_of_bytes, bytes_of, padded, field_of}
@@ -14,7 +15,6 @@ use Rattle.grain.specs.declared.Method.TheVariants.{Ia}
 use Rattle.grain.specs.declared.Session.{Session}
 use Rattle.book.specs.Book as Book
 use Rattle.payloads.specs.Payloads.{options_in, reader_keystream_in}
-use Rattle.rules.specs.declared.Verdict.TheVariants.{Go}
 use Rattle.rules.specs.Answers.{verdict_of, closing_of}
 use Rattle.rules.specs.Calls.{Command}
 use Rattle.rules.specs.Results.{said, decided}
@@ -58,7 +58,7 @@ no_options : (x : ℕ) → options_in (bits_of_bytes (guess 0 x).payload) ≡ 0
 unfolding bits_of_bytes bits_of digit num_of padded field_of
 no_options x = refl
 
-pub goes : (k x : ℕ) → command_verdict (begun_face false 5) (shown_of 0 (guess k x) 265) ≡ Go
+pub goes : (k x : ℕ) → command_verdict (begun_face false 5) (shown_of 0 (guess k x) 265) ≡ Ok tt
 unfolding command_verdict shown_of verdict_of closing_of Book.sound_of Book.ids_of Book.key_ids Book.rising bits_of_bytes bits_of digit num_of padded field_of
 goes k x = refl
 
@@ -92,7 +92,7 @@ module _ (change : TagState → Command → List ℕ → Given TagState → Give
       let k = rw (opens Ia 0, face-begun) at h in
       let m = (k (commands (alike_guesses 0 0 x y))).0 in
       let n = rw (mismatch 0 x u, mismatch 0 y v) at m in
-      let z : Silence.next M (begun_face false 5) (call (guess 0 x)) together (left x) (left y) ≡ Silence.failed = rw (p, q, order_of (begun_face false 5) (guess 0 x) 265 Go (goes 0 x)) refl in
+      let z : Silence.next M (begun_face false 5) (call (guess 0 x)) together (left x) (left y) ≡ Silence.failed = rw (p, q, order_of (begun_face false 5) (guess 0 x) 265 _ (goes 0 x)) refl in
       (subst (λ (s : Standing). Claimed M (begun_face false 5) (call (guess 0 x)) s (left x) (left y)) z n).1
 
 -- ---- the keystream's first two bits, whatever they are, say what guesses are wrong
@@ -171,5 +171,5 @@ keeps_key_lem d =
     let h = (from_reset keeps_key d (keyed (opening Ia) ∷ keyed (λ k. guess k (off k)) ∷ []) (commands (alike_keys _ 2 0 128 0 _ 64))).1 in
     let k = rw (opens Ia 0, opens Ia 128, face-begun) at h in
     let m = (k (commands (alike_guesses 0 128 (off 0) (off 128)))).0 in
-    let n = rw (mismatch 0 (off 0) (off_wrong 0), mismatch 128 (off 128) (off_wrong 128), order_of (begun_face false 5) (guess 0 (off 0)) 265 Go (goes 0 (off 0))) at m in
+    let n = rw (mismatch 0 (off 0) (off_wrong 0), mismatch 128 (off 128) (off_wrong 128), order_of (begun_face false 5) (guess 0 (off 0)) 265 _ (goes 0 (off 0))) at m in
     unfold bits_of_bytes bits_of digit in true≢false (sym (ap (λ (k : Knowing). k.bit) n.1.state))

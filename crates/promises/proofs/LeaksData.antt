@@ -6,6 +6,7 @@ use Prim.Native.Nat.{ℕ, ◌*◌, ◌^◌, ◌<◌}
 use native.Mathlib.Omega.{arith}
 use lib.ListN.{take, get_or, replicate}
 use borrow.Author.Tests.{ne_eqb, eq-eqb, eqb-true}
+use Rattle.std.specs.declared.result.Result.TheVariants.{Ok}
 use Rattle.bits.specs.Area.{shown}
 use Rattle.bits.specs.Bits.{bits_of, digit, num_of, num, ◌⊕◌}
 use Rattle.bits.specs.Bytes.{bits_of_bytes, bytes_of, padded, field_of}
@@ -22,7 +23,6 @@ use Rattle.grain.proofs.Runs.{length-keystream}
 use Rattle.book.specs.Book as Book
 use Rattle.payloads.specs.Payloads.{options_in, reader_keystream_in, zeros_of}
 use Rattle.rules.specs.declared.Answer.TheVariants.{Mismatch}
-use Rattle.rules.specs.declared.Verdict.TheVariants.{Go}
 use Rattle.rules.specs.Answers.{verdict_of, closing_of}
 use Rattle.rules.specs.Calls.{Command}
 use Rattle.rules.specs.Results.{said, decided, refused_by, compared_by}
@@ -67,7 +67,7 @@ spoken = with_engine filled (next_keystream later).engine
 abbrev ready : TagState
 ready = open_tag Ma 5 2 spoken
 
-proving : command_verdict (begun_face true 5) (shown_of 0 proof 265) ≡ Go
+proving : command_verdict (begun_face true 5) (shown_of 0 proof 265) ≡ Ok tt
 unfolding command_verdict shown_of verdict_of closing_of Book.sound_of Book.ids_of Book.key_ids Book.rising
     bits_of_bytes bytes_of bits_of digit num_of padded field_of
 proving = refl
@@ -124,7 +124,7 @@ mac-bit false false = refl
 ready_sound : sound_of ready ≡ true
 ready_sound = open-sound 5 2 spoken refl (filled-fits Mac32 (engine Ma 0)) Ma
 
-receiving : (a m : Bool) → command_verdict (open_by Ma 5 2) (shown_of 32 (secret a m) 265) ≡ Go
+receiving : (a m : Bool) → command_verdict (open_by Ma 5 2) (shown_of 32 (secret a m) 265) ≡ Ok tt
 unfolding command_verdict shown_of verdict_of closing_of Book.sound_of Book.ids_of Book.key_ids Book.rising
 receiving a m = rw (zeros_are a m) refl
 
@@ -160,7 +160,7 @@ both d m n u v =
     let h = (from_reset leaves_decrypted d calls (commands (alike_keys _ 0 0 0 0 _ 64))).1 in
     let k = ((rw (opens Ma 0, face-begun) at h) (commands (alike_keys _ 31 0 0 0 _ 80))).1 in
     let p = ((rw (proves, face-open, secrets_open) at k) (commands (alike_secrets m n))).0 in
-    let q = (rw (mismatch false m u, mismatch true n v, order_of (open_by Ma 5 2) (secret false m) 265 Go (receiving false m)) at p).1.area in
+    let q = (rw (mismatch false m u, mismatch true n v, order_of (open_by Ma 5 2) (secret false m) 265 _ (receiving false m)) at p).1.area in
     rw (data_bit false m, data_bit true n) at q
 
 -- they differ in their first bit, whatever was added to it

@@ -16,8 +16,7 @@ use Rattle.payloads.specs.Payloads.{zeros_of, layout_of, tag_challenge}
 use Rattle.faces.specs.declared.Face.{Face}
 use Rattle.faces.specs.TagFaces.{face_fits}
 use Rattle.rules.specs.declared.Answer.TheVariants.{WrongKind, WrongLength}
-use Rattle.rules.specs.declared.Verdict.TheVariants.{Refuse}
-use Rattle.rules.specs.Answers.{verdict_of, closing_of, if_sound}
+use Rattle.rules.specs.Answers.{close, verdict_of, closing_of, if_sound}
 use Rattle.rules.specs.Calls.{Command}
 use Rattle.rules.specs.Results.{said, decided, refused_by}
 use Rattle.rules.specs.TagRules.{shown_of, command_verdict, command_work}
@@ -60,7 +59,7 @@ tells_key_lem d =
 abbrev short : ℕ → Command
 short k = called 31 k 0 (80 ∷ 5 ∷ replicate 7 0) 72
 
-too_short : (k : ℕ) → command_verdict (begun_face false 5) (shown_of 0 (short k) 265) ≡ Refuse true WrongLength
+too_short : (k : ℕ) → command_verdict (begun_face false 5) (shown_of 0 (short k) 265) ≡ close WrongLength
 unfolding command_verdict shown_of verdict_of closing_of Book.sound_of Book.ids_of Book.key_ids Book.rising
 too_short k = refl
 
@@ -76,7 +75,7 @@ unfolding Silent bits_of_bytes bits_of digit
 tells_early_lem d =
     let h = (from_reset tells_early d (keyed (opening Ia) ∷ keyed short ∷ []) (commands (alike_keys _ 2 0 128 0 _ 64))).1 in
     let m = ((rw (opens Ia 0, opens Ia 128, face-begun) at h) (commands (alike_keys _ 31 0 128 0 _ 72))).0 in
-    let n = rw (refuses_short 0, refuses_short 128, order_of (begun_face false 5) (short 0) 265 (Refuse true WrongLength) (too_short 0)) at m in
+    let n = rw (refuses_short 0, refuses_short 128, order_of (begun_face false 5) (short 0) 265 _ (too_short 0)) at m in
     omega (arith, n.answer)
 
 -- ---- where ours answers 3: key updates of 40 bits in TA.1, which shows a width of 32 and has the eight bits of a message first
@@ -90,7 +89,7 @@ filled = filled_session (chosen_width 0) (engine Ta 0)
 abbrev proven : TagState
 proven = open_tag Ta 5 0 (with_engine filled (next_keystream filled.engine).engine)
 
-no_update : (x : ℕ) → command_verdict (open_by Ta 5 0) (shown_of 32 (update x) 265) ≡ Refuse true WrongKind
+no_update : (x : ℕ) → command_verdict (open_by Ta 5 0) (shown_of 32 (update x) 265) ≡ close WrongKind
 unfolding command_verdict shown_of verdict_of closing_of Book.sound_of Book.ids_of Book.key_ids Book.rising
 no_update x = refl
 

@@ -8,20 +8,19 @@ use native.Mathlib.Omega.{arith}
 use lib.Dec.{eqb}
 use lib.ListN.{length}
 use borrow.Author.Tests.{le-ltb, eqb-true, eq-eqb, ne_eqb}
+use Rattle.std.specs.declared.result.Result.TheVariants.{Ok, Err}
 use Rattle.bits.specs.Bytes.{bits_of_bytes}
 use Rattle.bits.proofs.Bools.{of-cond, cond_same}
 use Rattle.bits.proofs.Replies.{shown-none}
 use Rattle.payloads.specs.Payloads.{status_in, offers, supports}
 use Rattle.faces.specs.declared.ReaderFace.{ReaderFace}
 use Rattle.faces.specs.ReaderFaces.{stage_row}
-use Rattle.rules.specs.declared.Answer.{Answer}
 use Rattle.rules.specs.declared.Answer.TheVariants.{Unsupported}
 use Rattle.rules.specs.declared.Closing.{Closing}
 use Rattle.rules.specs.declared.Keeping.{Keeping}
+use Rattle.rules.specs.declared.Refused.{Refused}
 use Rattle.rules.specs.declared.ReplyWork.TheVariants as Work
-use Rattle.rules.specs.declared.Verdict.{Verdict}
-use Rattle.rules.specs.declared.Verdict.TheVariants.{Refuse, Go}
-use Rattle.rules.specs.Answers.{close, verdict_of, closing_of, if_sound}
+use Rattle.rules.specs.Answers.{Verdict, close, verdict_of, closing_of, if_sound}
 use Rattle.rules.specs.Calls.{Begin}
 use Rattle.rules.specs.Results.{Result, refused_by, said, decided}
 use Rattle.rules.specs.ReaderRules.{reply_shown, reply_keeping, reply_closing, reply_verdict, reply_work}
@@ -124,8 +123,8 @@ ours_holds = holds-method our_reader demand1_reader
 
 -- where the order goes on, one more check closes
 abbrev overruled : Verdict → Verdict
-overruled (Refuse closes a) = Refuse closes a
-overruled Go = close Unsupported
+overruled (Err r) = Err r
+overruled (Ok tt) = close Unsupported
 
 overruled_is : (k : Keeping) (c : Closing) (wrong : Bool) → verdict_of k (with_support true c) ≡ overruled (verdict_of k (with_support wrong c))
 unfolding verdict_of closing_of
@@ -139,14 +138,14 @@ module _ (r : ReaderState) (work : Result ReaderState) (b : List ℕ) where
   abbrev four : Given ReaderState
   four = given (refused_by closed_reader Unsupported) b
 
-  refusal_same : (closes : Bool) (a : Answer) → Plain a → by (Refuse closes a) ≡ cond (passes (by (Refuse closes a))) four (by (Refuse closes a))
+  refusal_same : (r : Refused) → Plain r.answer → by (Err r) ≡ cond (passes (by (Err r))) four (by (Err r))
   unfolding decided
-  refusal_same closes a p = rw (p.zero, p.ten)
+  refusal_same r p = rw (p.zero, p.ten)
 
   module _ (goes : passes (given work b) ≡ true) where
     turned : (k : Keeping) (c : Closing) → by (overruled (verdict_of k c)) ≡ cond (passes (by (verdict_of k c))) four (by (verdict_of k c))
     turned k c =
-        by_order (λ (v : Verdict). by (overruled v) ≡ cond (passes (by v)) four (by v)) k c (refusal_same false) (λ a p q. refusal_same true a p)
+        by_order (λ (v : Verdict). by (overruled v) ≡ cond (passes (by v)) four (by v)) k c (λ a. refusal_same (record { closes = false; answer = a })) (λ a p q. refusal_same (record { closes = true; answer = a }) p)
         (λ p. unfold decided in rw goes)
 
     turned_soundly : (sound : Bool) (k : Keeping) (c : Closing)

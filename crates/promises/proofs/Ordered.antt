@@ -7,15 +7,14 @@ use Prim.Native.Nat.{ℕ, ◌*◌, ◌≤◌}
 use native.Mathlib.Omega.{arith}
 use lib.Dec.{eqb}
 use lib.ListN.{length}
+use Rattle.std.specs.declared.result.Result.TheVariants.{Ok, Err}
 use Rattle.bits.specs.Area.{area_of}
 use Rattle.bits.proofs.Bools.{and_left, and_right, never, of-cond, cond_same}
-use Rattle.rules.specs.declared.Answer.{Answer}
 use Rattle.rules.specs.declared.Answer.TheVariants.{Mismatch}
 use Rattle.rules.specs.declared.Closing.{Closing}
 use Rattle.rules.specs.declared.Keeping.{Keeping}
-use Rattle.rules.specs.declared.Verdict.{Verdict}
-use Rattle.rules.specs.declared.Verdict.TheVariants.{Refuse, Go}
-use Rattle.rules.specs.Answers.{number_of, verdict_of, closing_of, if_sound}
+use Rattle.rules.specs.declared.Refused.{Refused}
+use Rattle.rules.specs.Answers.{Verdict, number_of, verdict_of, closing_of, if_sound}
 use Rattle.rules.specs.Results.{Result, refused_by, decided}
 use Rattle.promises.specs.Ours.{given}
 use Rattle.promises.specs.Order.{Checks, first_of, closes, Leads, Worked, Answered}
@@ -24,8 +23,8 @@ use Rattle.promises.specs.Order.{Checks, first_of, closes, Leads, Worked, Answer
 
 -- the number of a refusal, and else n
 abbrev pub number_in : Verdict → ℕ → ℕ
-number_in (Refuse shuts a) n = number_of a
-number_in Go n = n
+number_in (Err r) n = number_of r.answer
+number_in (Ok tt) n = n
 
 -- the same checks, as `rules` has them
 abbrev pub checks_of : Bool → Keeping → Closing → Bool → Checks
@@ -52,8 +51,8 @@ first_is false k c status = refl
 
 -- a refusal has a number, and closes where the table says so
 abbrev pub right : Verdict → Bool
-right (Refuse shuts a) = beq shuts (closes (number_of a)) && not (eqb (number_of a) 0)
-right Go = true
+right (Err r) = beq r.closes (closes (number_of r.answer)) && not (eqb (number_of r.answer) 0)
+right (Ok tt) = true
 
 pub always_right : (sound : Bool) (k : Keeping) (c : Closing) → right (if_sound sound (verdict_of k c)) ≡ true
 unfolding if_sound verdict_of closing_of
@@ -64,8 +63,8 @@ pub not_true : (x : Bool) → not x ≡ true → x ≡ false
 not_true true h = absurd (true≢false (sym h))
 not_true false h = refl
 
-pub refuses : (shuts : Bool) (a : Answer) → right (Refuse shuts a) ≡ true → number_of a ≡ 0 → ⊥
-refuses shuts a r e = never (eqb (number_of a) 0) (not_true _ (and_right (beq shuts (closes (number_of a))) _ r)) (ap (λ (n : ℕ). eqb n 0) e)
+pub refuses : (r : Refused) → right (Err r) ≡ true → number_of r.answer ≡ 0 → ⊥
+refuses r h e = never (eqb (number_of r.answer) 0) (not_true _ (and_right (beq r.closes (closes (number_of r.answer))) _ h)) (ap (λ (n : ℕ). eqb n 0) e)
 
 -- ---- a call, by its verdict
 
@@ -79,15 +78,15 @@ module _ {S F : Type 0} (face : S → F) (is_sound : S → Bool) (p : Leads F) (
     pub fits : length r.reply ≤ 8 * area_of b
     pub worked : is_sound r.next ≡ true → Worked face is_sound p (given r b) r.reply
 
-  refusal : (checks : Checks) (shuts : Bool) (a : Answer) → first_of checks ≡ number_of a → right (Refuse shuts a) ≡ true
-      → Says checks (refused_by (cond shuts closed s) a)
-  refusal checks shuts a e r = record {
+  refusal : (checks : Checks) (r : Refused) → first_of checks ≡ number_of r.answer → right (Err r) ≡ true
+      → Says checks (refused_by (cond r.closes closed s) r.answer)
+  refusal checks r e h = record {
     reply = [];
     count = refl;
     fits = omega arith;
     area = refl;
-    refused = λ n. record { answer = sym e; next = rw (e, beq_same shuts _ (and_left _ _ r)) refl; none = refl };
-    worked = λ z. absurd (refuses shuts a r (sym e ∙ z));
+    refused = λ n. record { answer = sym e; next = rw (e, beq_same r.closes _ (and_left _ _ h)) refl; none = refl };
+    worked = λ z. absurd (refuses r h (sym e ∙ z));
   }
     where
       beq_same : (x y : Bool) → beq x y ≡ true → x ≡ y
@@ -98,11 +97,11 @@ module _ {S F : Type 0} (face : S → F) (is_sound : S → Bool) (p : Leads F) (
 
   -- a refusal that the order says; a status 1, which closes; or the work, done from a sound state where every check has passed
   pub called : (checks : Checks) (status : Bool) (v : Verdict) (work : Result S) → first_of checks ≡ number_in v (cond status 10 0) → right v ≡ true
-      → (v ≡ Go → is_sound (decided v s closed work).next ≡ true) → (v ≡ Go → status ≡ true → work ≡ refused_by closed Mismatch)
-      → (v ≡ Go → status ≡ false → Works work) → Says checks (decided v s closed work)
+      → (v ≡ Ok tt → is_sound (decided v s closed work).next ≡ true) → (v ≡ Ok tt → status ≡ true → work ≡ refused_by closed Mismatch)
+      → (v ≡ Ok tt → status ≡ false → Works work) → Says checks (decided v s closed work)
   unfolding decided
-  called checks status (Refuse shuts a) work e r good fails go = refusal checks shuts a e r
-  called checks true Go work e r good fails go = rw (fails refl refl) (refusal checks true Mismatch e refl)
-  called checks false Go work e r good fails go =
+  called checks status (Err r) work e h good fails go = refusal checks r e h
+  called checks true (Ok tt) work e h good fails go = rw (fails refl refl) (refusal checks (record { closes = true; answer = Mismatch }) e refl)
+  called checks false (Ok tt) work e h good fails go =
       let w = go refl refl in
       record { reply = work.reply; count = refl; fits = w.fits; area = refl; refused = λ n. absurd (n e); worked = λ z. w.worked (good refl) }

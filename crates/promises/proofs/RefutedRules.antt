@@ -8,6 +8,7 @@ use native.Mathlib.Omega.{arith}
 use lib.Dec.{eqb}
 use lib.ListN.{length, replicate, take, get_or}
 use borrow.Author.Tests.{eqb-false, lt-ltb, le-ltb, eq-eqb}
+use Rattle.std.specs.declared.result.Result.TheVariants.{Ok}
 use Rattle.bits.specs.Area.{shown}
 use Rattle.bits.specs.Bits.{bits_of, num_of, digit}
 use Rattle.bits.specs.Bytes.{bits_of_bytes, bytes_of, padded, field_of}
@@ -22,7 +23,6 @@ use Rattle.faces.specs.declared.Face.{Face}
 use Rattle.faces.specs.declared.ReaderFace.{ReaderFace}
 use Rattle.faces.specs.TagFaces.{name_number, error_type}
 use Rattle.faces.specs.ReaderFaces.{reader_fits}
-use Rattle.rules.specs.declared.Verdict.TheVariants.{Go}
 use Rattle.rules.specs.declared.Answer.TheVariants.{Unsupported}
 use Rattle.rules.specs.Answers.{number_of, close, verdict_of, closing_of, if_sound}
 use Rattle.rules.specs.Calls.{Command}
@@ -155,7 +155,7 @@ in_ia1 = Leaks.tag 0
 pub failed_stays_lem : Demand1Tag failed_stays → ⊥
 failed_stays_lem d =
     let z : first_of (command_checks (sound_of in_ia1) (face_of in_ia1) wrong_guess 265) ≡ 0
-    = rw (begun-sound false 5 (engine Ia 0), face-begun) (order_of (begun_face false 5) wrong_guess 265 Go (Leaks.goes 0 (Leaks.off 0))) in
+    = rw (begun-sound false 5 (engine Ia 0), face-begun) (order_of (begun_face false 5) wrong_guess 265 _ (Leaks.goes 0 (Leaks.off 0))) in
     by_work ((d.answers.command in_ia1 wrong_guess buffer).worked z)
   where
     ours : command_of in_ia1 wrong_guess 265 ≡ said (Work.failed false)
@@ -227,7 +227,7 @@ module _ (right : ReaderFace → ℕ → Bool) (d : Demand1Reader (held_by right
   by_right x own = rw (asking_sound method h, face_asked, reply-row, eq-eqb count (response_bits method) e, le-ltb 120 count w, own) (at x)
     where
       at : (x : Bool)
-          → given (decided (cond (not x) (close Unsupported) Go) (asking method) closed_reader work) buffer
+          → given (decided (cond (not x) (close Unsupported) (Ok tt)) (asking method) closed_reader work) buffer
           ≡ cond x (given work buffer) (given (refused_by closed_reader Unsupported) buffer)
       at true = refl
       at false = refl

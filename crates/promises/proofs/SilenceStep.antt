@@ -24,9 +24,8 @@ use Rattle.rules.specs.declared.Answer.TheVariants.{Mismatch}
 use Rattle.rules.specs.declared.Closing.{Closing}
 use Rattle.rules.specs.declared.Keeping.{Keeping}
 use Rattle.rules.specs.declared.Shown.{Shown}
-use Rattle.rules.specs.declared.Verdict.{Verdict}
 use Rattle.rules.specs.declared.Work.TheVariants.{Start, Prove, Receive}
-use Rattle.rules.specs.Answers.{verdict_of}
+use Rattle.rules.specs.Answers.{Verdict, verdict_of}
 use Rattle.rules.specs.Calls.{Command, Message, message_shown}
 use Rattle.rules.specs.Results.{Result, Outcome, done_by, compared_by, said, reached, decided}
 use Rattle.rules.specs.TagRules.{shown_of, command_verdict, command_work, response_keeping, response_closing, response_verdict}

@@ -3,10 +3,9 @@ use mathlib.Core.Path.{◌≡◌, refl, sym, ap, ap₂, ◌∙◌}
 use mathlib.Core.Bool.{true, cond}
 use Prim.Native.Nat.{ℕ}
 use lib.ListN.{length}
+use Rattle.std.specs.declared.result.Result.TheVariants.{Ok, Err}
 use Rattle.book.specs.Book as Book
-use Rattle.rules.specs.declared.Verdict.{Verdict}
-use Rattle.rules.specs.declared.Verdict.TheVariants.{Refuse, Go}
-use Rattle.rules.specs.Answers.{number_of}
+use Rattle.rules.specs.Answers.{Verdict, number_of}
 use Rattle.rules.specs.Calls.{Begin}
 use Rattle.rules.specs.Results.{Result, decided}
 use Rattle.rules.specs.ReaderRules.{begin_verdict}
@@ -37,10 +36,10 @@ tag-stands = record {
 }
 
 -- what answers 0 was not refused
-done_goes : {S : Type 0} (v : Verdict) (s closed : S) (work : Result S) → right v ≡ true → number_of (decided v s closed work).answer ≡ 0 → v ≡ Go
+done_goes : {S : Type 0} (v : Verdict) (s closed : S) (work : Result S) → right v ≡ true → number_of (decided v s closed work).answer ≡ 0 → v ≡ Ok tt
 unfolding decided
-done_goes (Refuse shuts a) s closed work r e = absurd (refuses shuts a r e)
-done_goes Go s closed work r e = refl
+done_goes (Err r) s closed work h e = absurd (refuses r h e)
+done_goes (Ok tt) s closed work h e = refl
 
 -- "with the key as b and s zero"
 begun : (r : ReaderState) (i : Begin) (room : ℕ) → number_of (begin_of r i room).answer ≡ 0

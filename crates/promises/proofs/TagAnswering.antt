@@ -6,6 +6,7 @@ use Prim.Native.Nat.{ℕ, ◌≤◌}
 use lib.Dec.{eqb}
 use lib.ListN.{length}
 use borrow.Author.Tests.{eqb-true, ltb-false, not-false}
+use Rattle.std.specs.declared.result.Result.TheVariants.{Ok}
 use Rattle.bits.specs.Bits.{bits_of, digit}
 use Rattle.bits.specs.Bytes.{bits_of_bytes}
 use Rattle.bits.proofs.Bools.{never}
@@ -20,7 +21,6 @@ use Rattle.faces.specs.declared.Name.TheVariants.{CsReset, Ta1, Ia1, Ia2, Ma1, M
 use Rattle.faces.specs.TagFaces.{row_of, fresh}
 use Rattle.faces.proofs.Fits.{open-width, responds-filled}
 use Rattle.rules.specs.declared.Shown.{Shown}
-use Rattle.rules.specs.declared.Verdict.TheVariants.{Go}
 use Rattle.rules.specs.declared.Work.TheVariants.{Start, Prove, Receive}
 use Rattle.rules.specs.Calls.{Command, Message, message_shown}
 use Rattle.rules.specs.Results.{Result, done_by, said}
@@ -89,7 +89,7 @@ module _ (t : TagState) (b : List ℕ) where
   proved_works false true c o e x room i =
       tag-done (step_one_leads false f c) _ _ (face-open _ _ _ _ ∙ rw i refl) (payload-fits b room (Status 0)) (all_public _)
 
-  module _ (c : Command) (well : sound_of t ≡ true) (go : command_verdict f (shown_of f.width c (length b)) ≡ Go) (key : List ℕ) where
+  module _ (c : Command) (well : sound_of t ≡ true) (go : command_verdict f (shown_of f.width c (length b)) ≡ Ok tt) (key : List ℕ) where
     abbrev shows : Shown
     shows = shown_of f.width c (length b)
 

@@ -14,8 +14,7 @@ use Rattle.rules.specs.declared.Closing.{Closing}
 use Rattle.rules.specs.declared.Keeping.{Keeping}
 use Rattle.rules.specs.declared.Shown.{Shown}
 use Rattle.rules.specs.declared.ShownReply.{ShownReply}
-use Rattle.rules.specs.declared.Verdict.{Verdict}
-use Rattle.rules.specs.Answers.{keep, verdict_of, if_sound}
+use Rattle.rules.specs.Answers.{Verdict, keep, verdict_of, if_sound}
 use Rattle.rules.specs.Results.{decided, said}
 use Rattle.rules.specs.TagRules.{key_under, shown_of, command_keeping, command_closing, command_work}
 use Rattle.rules.specs.ReaderRules.{reply_shown, reply_keeping, reply_closing, reply_work}

@@ -4,11 +4,11 @@ use mathlib.Core.Bool.{Bool, true, not, ◌&&◌, ◌||◌, or-true}
 use Prim.Native.Nat.{ℕ, ◌*◌, ◌≤◌}
 use lib.Dec.{ltb, eqb}
 use borrow.Author.Tests.{ltb-false, not-false}
+use Rattle.std.specs.declared.result.Result.TheVariants.{Ok}
 use Rattle.bits.proofs.Bools.{and_left, neither}
 use Rattle.payloads.specs.Payloads.{mac64}
 use Rattle.faces.specs.declared.ReaderFace.{ReaderFace}
 use Rattle.rules.specs.declared.ShownMessage.{ShownMessage}
-use Rattle.rules.specs.declared.Verdict.TheVariants.{Go}
 use Rattle.faces.specs.ReaderFaces.{stage_row, reader_fits}
 use Rattle.rules.specs.ReaderRules.{may_talk, send_keeping, send_closing, send_verdict, receive_keeping, receive_closing, receive_verdict}
 use Rattle.faces.proofs.Fits.{full_width}
@@ -22,7 +22,7 @@ talking f silent kind h = and_left _ _ (and_left ((stage_row f.stage).opened && 
 -- ---- messages
 
 module _ (f : ReaderFace) (p : ShownMessage) where
-  module _ (e : send_verdict f p ≡ Go) where
+  module _ (e : send_verdict f p ≡ Ok tt) where
     pub send_passed : Passed (send_keeping (stage_row f.stage) f p) send_closing
     unfolding send_verdict
     send_passed = passed _ _ e
@@ -30,7 +30,7 @@ module _ (f : ReaderFace) (p : ShownMessage) where
     pub send_sendable : (size : ℕ) → p.beyond ≡ ltb (8 * size) p.count → Sendable p.room p.count size
     send_sendable size b = sendable p.room p.count size _ send_passed.kept.buffer (rw b at send_passed.kept.argument)
 
-  module _ (zeros : Bool) (e : receive_verdict f p zeros ≡ Go) where
+  module _ (zeros : Bool) (e : receive_verdict f p zeros ≡ Ok tt) where
     pub receive_passed : Passed (receive_keeping (stage_row f.stage) f p) (receive_closing f p zeros)
     unfolding receive_verdict
     receive_passed = passed _ _ e

@@ -7,6 +7,7 @@ use native.Mathlib.Omega.{arith}
 use lib.Dec.{ltb, leb, eqb}
 use borrow.Author.Tests.{ltb-false, leb-true, not-false}
 use Rattle.std.specs.Prelude.{None, is_some, unwrap_or}
+use Rattle.std.specs.declared.result.Result.TheVariants.{Ok}
 use Rattle.bits.proofs.Bools.{and_left, and_right, neither, unless}
 use Rattle.book.specs.Book as Book
 use Rattle.book.proofs.Laws.{found-some, found_key}
@@ -16,7 +17,6 @@ use Rattle.faces.specs.declared.Name.TheVariants.{CsReset, Ta1, Ia1, Ia2, Ma1, M
 use Rattle.faces.specs.declared.Face.{Face}
 use Rattle.rules.specs.declared.Shown.{Shown}
 use Rattle.rules.specs.declared.ShownMessage.{ShownMessage}
-use Rattle.rules.specs.declared.Verdict.TheVariants.{Go}
 use Rattle.rules.specs.declared.Work.{Work}
 use Rattle.rules.specs.declared.Work.TheVariants.{Start, Prove, Receive}
 use Rattle.rules.specs.Calls.{small_room}
@@ -59,7 +59,7 @@ sendable room count size kind r e =
 
 -- ---- a command
 
-module _ (f : Face) (p : Shown) (e : command_verdict f p ≡ Go) where
+module _ (f : Face) (p : Shown) (e : command_verdict f p ≡ Ok tt) where
   pub command_passed : Passed (command_keeping (row_of f.name) f p) (command_closing (row_of f.name) f p)
   unfolding command_verdict
   command_passed = passed _ _ e
@@ -86,7 +86,7 @@ filled_row Ma2 o k h e = refl
 -- ---- a sound face
 
 module _ (f : Face) (s : face_fits f ≡ true) where
-  pub command_receivable : (p : Shown) (size : ℕ) → p.beyond ≡ ltb (8 * size) p.count → command_verdict f p ≡ Go → eqb p.kind 0 ≡ false
+  pub command_receivable : (p : Shown) (size : ℕ) → p.beyond ≡ ltb (8 * size) p.count → command_verdict f p ≡ Ok tt → eqb p.kind 0 ≡ false
       → Receivable f.width p.count size
   command_receivable p size b e auth =
       let row = row_of f.name in
@@ -99,7 +99,7 @@ module _ (f : Face) (s : face_fits f ≡ true) where
 
 -- ---- a response
 
-module _ (f : Face) (p : ShownMessage) (e : response_verdict f p ≡ Go) where
+module _ (f : Face) (p : ShownMessage) (e : response_verdict f p ≡ Ok tt) where
   pub response_passed : Passed (response_keeping (row_of f.name) f p) (response_closing (row_of f.name) f p)
   unfolding response_verdict
   response_passed = passed _ _ e

@@ -2,14 +2,13 @@
 use mathlib.Core.Path.{◌≡◌, refl, sym, ap, ◌∙◌}
 use mathlib.Core.Bool.{Bool, true, false, not, cond, ◌||◌, true≢false}
 use lib.Dec.{eqb}
+use Rattle.std.specs.declared.result.Result.TheVariants.{Ok, Err}
 use Rattle.bits.proofs.Bools.{neither, of-cond, cond_same}
 use Rattle.rules.specs.declared.Answer.{Answer}
 use Rattle.rules.specs.declared.Answer.TheVariants.{BadState}
 use Rattle.rules.specs.declared.Closing.{Closing}
 use Rattle.rules.specs.declared.Keeping.{Keeping}
-use Rattle.rules.specs.declared.Verdict.{Verdict}
-use Rattle.rules.specs.declared.Verdict.TheVariants.{Refuse, Go}
-use Rattle.rules.specs.Answers.{number_of, keep, close, verdict_of, closing_of, kept, if_sound}
+use Rattle.rules.specs.Answers.{Verdict, number_of, keep, close, verdict_of, closing_of, kept, if_sound}
 use Rattle.rules.specs.Results.{Result, refused_by, decided}
 
 -- ---- where the order goes, every check has passed
@@ -34,12 +33,12 @@ past f true x y h e = absurd (true≢false (sym h ∙ e))
 past f false x y h e = (refl, e)
 
 abbrev keeps_in : Verdict → Bool
-keeps_in (Refuse closes a) = not closes
-keeps_in Go = false
+keeps_in (Err r) = not r.closes
+keeps_in (Ok tt) = false
 
 abbrev refuses_in : Verdict → Bool
-refuses_in (Refuse closes a) = true
-refuses_in Go = false
+refuses_in (Err r) = true
+refuses_in (Ok tt) = false
 
 module _ (k : Keeping) (c : Closing) where
   -- what does not keep has passed the checks that do
@@ -57,7 +56,7 @@ module _ (k : Keeping) (c : Closing) where
   unfolding verdict_of
   closing_is p = rw (p.buffer, p.argument, p.book, p.error, p.work)
 
-  pub passed : verdict_of k c ≡ Go → Passed k c
+  pub passed : verdict_of k c ≡ Ok tt → Passed k c
   unfolding closing_of
   passed e =
       let p = unkept (ap keeps_in e) in
@@ -68,7 +67,7 @@ module _ (k : Keeping) (c : Closing) where
       let g = past refuses_in c.support _ _ refl f.1 in
       record { kept = p; kind = a.0; length = b.0; step = d.0; key = f.0; support = g.0 }
 
-  pub goes : Passed k c → verdict_of k c ≡ Go
+  pub goes : Passed k c → verdict_of k c ≡ Ok tt
   unfolding closing_of
   goes p = closing_is p.kept ∙ rw (p.kind, p.length, p.step, p.key, p.support)
 
@@ -86,8 +85,8 @@ plain : (a : Answer) → special a ≡ false → Plain a
 plain a e = let h = neither _ _ e in record { zero = h.0; ten = h.1 }
 
 abbrev odd : Verdict → Bool
-odd (Refuse closes a) = special a
-odd Go = false
+odd (Err r) = special r.answer
+odd (Ok tt) = false
 
 never_odd : (k : Keeping) (c : Closing) → odd (verdict_of k c) ≡ false
 unfolding verdict_of closing_of
@@ -95,13 +94,17 @@ never_odd k c = simp (of-cond odd, cond_same)
 
 -- what holds of each verdict holds of what the order says
 pub by_order : (P : Verdict → Type 0) (k : Keeping) (c : Closing) → ((a : Answer) → Plain a → P (keep a))
-    → ((a : Answer) → Plain a → Kept k → P (close a)) → (Passed k c → P Go) → P (verdict_of k c)
+    → ((a : Answer) → Plain a → Kept k → P (close a)) → (Passed k c → P (Ok tt)) → P (verdict_of k c)
 by_order P k c kept closed go = at (verdict_of k c) refl (never_odd k c)
   where
+    refused : (closes : Bool) (a : Answer) → verdict_of k c ≡ Err (record { closes = closes; answer = a }) → special a ≡ false
+        → P (Err (record { closes = closes; answer = a }))
+    refused false a e n = kept a (plain a n)
+    refused true a e n = closed a (plain a n) (unkept k c (ap keeps_in e))
+
     at : (v : Verdict) → verdict_of k c ≡ v → odd v ≡ false → P v
-    at (Refuse false a) e n = kept a (plain a n)
-    at (Refuse true a) e n = closed a (plain a n) (unkept k c (ap keeps_in e))
-    at Go e n = go (passed k c e)
+    at (Err r) e n = refused r.closes r.answer e n
+    at (Ok tt) e n = go (passed k c e)
 
 -- ---- what both machines then do
 
@@ -124,7 +127,7 @@ pub soundly : (b : Bool) (v : Verdict) → b ≡ true → if_sound b v ≡ v
 unfolding if_sound
 soundly b v e = rw e
 
-pub sound_goes : (b : Bool) (v : Verdict) → if_sound b v ≡ Go → (b ≡ true) × (v ≡ Go)
+pub sound_goes : (b : Bool) (v : Verdict) → if_sound b v ≡ Ok tt → (b ≡ true) × (v ≡ Ok tt)
 unfolding if_sound
 sound_goes true v e = (refl, e)
 sound_goes false v e = absurd (true≢false (ap refuses_in e))
@@ -133,8 +136,8 @@ sound_goes false v e = absurd (true≢false (ap refuses_in e))
 pub kept_decides : {S : Type 0} (b : Bool) (v : Verdict) (s closed : S) (work : Result S)
     → decided (if_sound b (kept v)) s closed work ≡ decided (if_sound b v) s s work
 unfolding if_sound kept decided
-kept_decides true (Refuse closes a) s closed work = rw cond_same
-kept_decides true Go s closed work = refl
+kept_decides true (Err r) s closed work = rw cond_same
+kept_decides true (Ok tt) s closed work = refl
 kept_decides false v s closed work = refl
 
 -- where every check has passed, a sound state does the work

@@ -1,9 +1,8 @@
 -- Document 01, "Replies and refusals": the numbers and their one order. Assumes nothing.
-use Rattle.std.specs.Prelude.{Bool, true, false, cond, ℕ}
+use Rattle.std.specs.Prelude.{Bool, true, false, cond, ℕ, Result, Ok, Err, ⊤}
 use Rattle.rules.specs.declared.Answer.{Answer}
 use Rattle.rules.specs.declared.Answer.TheVariants.{Done, BadBook, SmallBuffer, WrongKind, Unsupported, UnknownKey, WrongLength, Closed, BadState, NoWork, Mismatch, BadArgument}
-use Rattle.rules.specs.declared.Verdict.{Verdict}
-use Rattle.rules.specs.declared.Verdict.TheVariants.{Refuse, Go}
+use Rattle.rules.specs.declared.Refused.{Refused}
 use Rattle.rules.specs.declared.Keeping.{Keeping}
 use Rattle.rules.specs.declared.Closing.{Closing}
 
@@ -22,13 +21,17 @@ number_of NoWork = 9
 number_of Mismatch = 10
 number_of BadArgument = 11
 
+-- what the checks say: go on, or refuse
+abbrev pub Verdict : Type 0
+Verdict = Result ⊤ Refused
+
 -- refused, and the state kept
 abbrev pub keep : Answer → Verdict
-keep a = Refuse false a
+keep a = Err (record { closes = false; answer = a })
 
 -- refused, and the state closed
 abbrev pub close : Answer → Verdict
-close a = Refuse true a
+close a = Err (record { closes = true; answer = a })
 
 -- "kind (3), length and zero bits (6), method and step (3), KeyID (5), method and options support (4)": these close
 unfoldable pub closing_of : Closing → Verdict
@@ -38,7 +41,7 @@ closing_of c =
     (cond c.step (close WrongKind)
     (cond c.key (close UnknownKey)
     (cond c.support (close Unsupported)
-    Go))))
+    (Ok tt)))))
 
 -- "Order: 8, 2, 11, 1, 7, 9": these keep the state, and stand before those that close it
 unfoldable pub verdict_of : Keeping → Closing → Verdict
@@ -52,8 +55,8 @@ verdict_of k c =
 
 -- "closed (begin: kept)": the same refusals, and each keeps the state
 unfoldable pub kept : Verdict → Verdict
-kept (Refuse closes a) = keep a
-kept Go = Go
+kept (Ok tt) = Ok tt
+kept (Err r) = keep r.answer
 
 -- 8, "a stored state against the rules", stands first. It asks about the stored state alone, and so stands around the other checks,
 -- which speak of sound states

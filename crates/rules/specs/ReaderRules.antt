@@ -10,11 +10,10 @@ use Rattle.rules.specs.declared.ShownReply.{ShownReply}
 use Rattle.rules.specs.declared.ShownMessage.{ShownMessage}
 use Rattle.rules.specs.declared.Keeping.{Keeping}
 use Rattle.rules.specs.declared.Closing.{Closing}
-use Rattle.rules.specs.declared.Verdict.{Verdict}
 use Rattle.rules.specs.declared.ReplyWork.{ReplyWork}
 use Rattle.rules.specs.declared.ReplyWork.TheVariants.{Compare, Answer, Fail, Accept, Confirm}
 use Rattle.faces.specs.ReaderFaces.{stage_row}
-use Rattle.rules.specs.Answers.{verdict_of, kept}
+use Rattle.rules.specs.Answers.{Verdict, verdict_of, kept}
 use Rattle.rules.specs.Calls.{Begin, small_room, big_number}
 
 -- ---- begin: "only when idle, else 9"; "A method of 3 or more, or options of 4 or more, is 4"

@@ -1,12 +1,11 @@
 -- Document 01, "Replies and refusals": what a call of either machine gives. Assumes nothing.
-use Rattle.std.specs.Prelude.{Bool, cond, List, [], ◌≡◌, ℕ}
+use Rattle.std.specs.Prelude.{Bool, cond, List, [], ◌≡◌, ℕ, Ok, Err}
 use Rattle.bits.specs.Area.{shown}
 use Rattle.payloads.specs.declared.Payload.{Payload}
 use Rattle.payloads.specs.Payloads.{layout_of}
 use Rattle.rules.specs.declared.Answer.{Answer}
 use Rattle.rules.specs.declared.Answer.TheVariants.{Done, Mismatch}
-use Rattle.rules.specs.declared.Verdict.{Verdict}
-use Rattle.rules.specs.declared.Verdict.TheVariants.{Refuse, Go}
+use Rattle.rules.specs.Answers.{Verdict}
 
 -- a next state, an answer and a reply
 pub record Result (S : Type 0) : Type 0 where
@@ -50,8 +49,8 @@ differed s reply = record { next = s; answer = Mismatch; reply = reply }
 
 -- the table's "kept" and "closed", from a state and what it is closed; "next" is the work's
 unfoldable pub decided : {S : Type 0} → Verdict → S → S → Result S → Result S
-decided (Refuse closes a) s closed work = refused_by (cond closes closed s) a
-decided Go s closed work = work
+decided (Ok tt) s closed work = work
+decided (Err r) s closed work = refused_by (cond r.closes closed s) r.answer
 
 -- "Every call writes all of it: the reply's bits, then zeros. Bytes beyond stay as found"; the step handed back is the result's
 pub record Gives {S T : Type 0} (step_of : Result S → T) (r : Result S) (s : T) (before after : List ℕ) : Type 0 where

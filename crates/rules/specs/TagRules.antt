@@ -10,11 +10,10 @@ use Rattle.rules.specs.declared.Shown.{Shown}
 use Rattle.rules.specs.declared.ShownMessage.{ShownMessage}
 use Rattle.rules.specs.declared.Keeping.{Keeping}
 use Rattle.rules.specs.declared.Closing.{Closing}
-use Rattle.rules.specs.declared.Verdict.{Verdict}
 use Rattle.rules.specs.declared.Work.{Work}
 use Rattle.rules.specs.declared.Work.TheVariants.{Start, Prove, Receive}
 use Rattle.faces.specs.TagFaces.{row_of, fresh}
-use Rattle.rules.specs.Answers.{verdict_of}
+use Rattle.rules.specs.Answers.{Verdict, verdict_of}
 use Rattle.rules.specs.Calls.{Command, small_room, big_number}
 
 -- ---- what a command shows

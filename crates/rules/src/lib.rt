@@ -12,8 +12,26 @@ ghost use Rattle.rules.specs.Calls.{message_shown};
 
 use payloads::Fields;
 
+// Kinds, methods and options stay bytes: a call answers every byte (demand 1, `demand1_tag` and `demand1_reader` in `promises`).
+// These are the kinds that the rules name, and the methods.
+pub(crate) const AUTHENTICATION: u8 = 0;
+
+pub(crate) const COMM: u8 = 1;
+
+pub(crate) const SECURE: u8 = 2;
+
+pub(crate) const COMM_RESPONSE: u8 = 4;
+
+pub(crate) const SECURE_RESPONSE: u8 = 5;
+
+pub(crate) const TA: u8 = 0;
+
+pub(crate) const IA: u8 = 1;
+
+pub(crate) const MA: u8 = 2;
+
 // What a call answers (document 01's table, in the order of its numbers).
-#[derive(Clone, Copy)]
+#[derive(Clone, Copy, Debug, PartialEq, Eq)]
 pub enum Answer {
     Done,
     BadBook,
@@ -32,7 +50,7 @@ pub enum Answer {
 // ---- the order
 
 // The checks that keep the state, each true where it refuses, in their order.
-#[derive(Clone, Copy)]
+#[derive(Clone, Copy, Debug, Default, PartialEq, Eq)]
 pub struct Keeping {
     pub buffer: bool,
     pub argument: bool,
@@ -42,7 +60,7 @@ pub struct Keeping {
 }
 
 // The checks that close it, which stand behind those.
-#[derive(Clone, Copy)]
+#[derive(Clone, Copy, Debug, Default, PartialEq, Eq)]
 pub struct Closing {
     pub kind: bool,
     pub length: bool,
@@ -51,23 +69,25 @@ pub struct Closing {
     pub support: bool,
 }
 
-// What the checks say: refuse, and keep the state or close it; or go on.
-#[derive(Clone, Copy)]
-pub enum Verdict {
-    Refuse { closes: bool, answer: Answer },
-    Go,
+// A refusal: what is answered, and whether it closes the state or keeps it.
+#[derive(Clone, Copy, Debug, PartialEq, Eq)]
+pub struct Refused {
+    pub closes: bool,
+    pub answer: Answer,
 }
 
+// What the checks say: go on, or be refused.
+pub type Verdict = Result<(), Refused>;
+
 // What a stored state that is not sound is answered stands before all other checks.
+#[tactic(auto, unfolding(crate::specs::Answers::if_sound))]
 pub fn if_sound(sound: bool, v: Verdict) -> Verdict
     ensures { result ≡ if_sound sound v }
 {
     if sound {
-        return v;
-    }
-    Verdict::Refuse {
-        closes: false,
-        answer: Answer::BadState,
+        v
+    } else {
+        Err(order::keep(Answer::BadState))
     }
 }
 
@@ -89,7 +109,7 @@ pub struct Shown {
 }
 
 // What a command does where nothing refuses it: step 0, step 1, a message.
-#[derive(Clone, Copy)]
+#[derive(Clone, Copy, Debug, PartialEq, Eq)]
 pub enum Work {
     Start,
     Prove,
@@ -99,7 +119,7 @@ pub enum Work {
 // ---- the reader
 
 // What begin shows of itself.
-#[derive(Clone, Copy)]
+#[derive(Clone, Copy, Debug, PartialEq, Eq)]
 pub struct ShownBegin {
     pub method: u8,
     pub options: u8,
@@ -110,7 +130,7 @@ pub struct ShownBegin {
 }
 
 // What an authentication response shows of itself.
-#[derive(Clone, Copy)]
+#[derive(Clone, Copy, Debug, PartialEq, Eq)]
 pub struct ShownReply {
     pub count: usize,
     pub beyond: bool,
@@ -120,7 +140,7 @@ pub struct ShownReply {
 }
 
 // What a response does where nothing refuses it: TA's comparison, the step 1 command, a failure, IA's status, MA's comparison.
-#[derive(Clone, Copy)]
+#[derive(Clone, Copy, Debug, PartialEq, Eq)]
 pub enum ReplyWork {
     Compare,
     Answer,
@@ -132,7 +152,7 @@ pub enum ReplyWork {
 // ---- both
 
 // What a message shows of itself, to its sender or to its receiver.
-#[derive(Clone, Copy)]
+#[derive(Clone, Copy, Debug, PartialEq, Eq)]
 pub struct ShownMessage {
     pub kind: u8,
     pub count: usize,
@@ -152,23 +172,10 @@ pub fn message_shown(kind: u8, payload: &[u8], count: usize, room: usize) -> Sho
     }
 }
 
-impl Answer {
-    pub fn number(self) -> u8
-        ensures { result ≡ number_of self }
-    {
-        match self {
-            Answer::Done => 0,
-            Answer::BadBook => 1,
-            Answer::SmallBuffer => 2,
-            Answer::WrongKind => 3,
-            Answer::Unsupported => 4,
-            Answer::UnknownKey => 5,
-            Answer::WrongLength => 6,
-            Answer::Closed => 7,
-            Answer::BadState => 8,
-            Answer::NoWork => 9,
-            Answer::Mismatch => 10,
-            Answer::BadArgument => 11,
-        }
+impl From<Answer> for u8 {
+    ghost from_gives = { λ answer n. n ≡ number_of answer };
+
+    fn from(answer: Answer) -> u8 {
+        answer as u8
     }
 }

@@ -1,32 +1,33 @@
 // What the reader's stages ask, and what a call is refused for.
 ghost use Rattle.std.specs.Prelude.{◌≡◌};
-ghost use Rattle.rules.specs.ReaderRules.{begin_verdict, reply_shown, reply_length, reply_closing, reply_verdict, reply_work, may_talk, send_verdict, receive_verdict};
+ghost use Rattle.rules.specs.ReaderRules.{begin_verdict, reply_shown, reply_length, reply_closing, reply_verdict, reply_work, may_talk, send_closing, send_verdict, receive_verdict};
 
-use crate::{Closing, Keeping, ReplyWork, ShownBegin, ShownMessage, ShownReply, Verdict, order};
+use crate::{
+    COMM, Closing, IA, Keeping, MA, ReplyWork, SECURE, ShownBegin, ShownMessage, ShownReply, TA,
+    Verdict, order,
+};
 use bits::AREA_BYTES;
 use faces::{ReaderFace, StageRow};
 use payloads::{DATA_BITS, NUMBER_LIMIT};
 
 // ---- begin
 
+#[tactic(auto, unfolding(crate::specs::ReaderRules::begin_verdict))]
 pub fn begin_verdict(f: ReaderFace, p: ShownBegin) -> Verdict
     ensures { result ≡ begin_verdict f p }
 {
-    let stage = f.stage;
-    let row = faces::reader::stage_row(stage);
+    let row = faces::reader::stage_row(f.stage);
     let keeping = Keeping {
         buffer: p.room < AREA_BYTES,
         argument: NUMBER_LIMIT <= p.number,
         book: !p.book,
-        error: false,
         work: !row.idle,
+        ..Keeping::default()
     };
     let closing = Closing {
-        kind: false,
-        length: false,
-        step: false,
         key: !p.known,
         support: (3 <= p.method) | (4 <= p.options),
+        ..Closing::default()
     };
     order::kept(order::verdict(keeping, closing))
 }
@@ -48,17 +49,16 @@ pub fn reply_shown(payload: &[u8], count: usize, room: usize) -> ShownReply
     }
 }
 
+#[tactic(auto, unfolding(crate::specs::ReaderRules::reply_verdict))]
 pub fn reply_verdict(f: ReaderFace, p: ShownReply) -> Verdict
     ensures { result ≡ reply_verdict f p }
 {
-    let stage = f.stage;
-    let row = faces::reader::stage_row(stage);
+    let row = faces::reader::stage_row(f.stage);
     let keeping = Keeping {
         buffer: p.room < AREA_BYTES,
         argument: p.beyond,
-        book: false,
-        error: false,
         work: !(row.asked | row.proving),
+        ..Keeping::default()
     };
     let closing = reply_closing(row, f, p);
     order::verdict(keeping, closing)
@@ -71,20 +71,18 @@ fn reply_closing(row: StageRow, f: ReaderFace, p: ShownReply) -> Closing
     let own = payloads::offered(p.features, f.method);
     let chosen = payloads::supported(p.features, f.options);
     Closing {
-        kind: false,
         length: !length,
-        step: false,
-        key: false,
         support: row.asked & !(own & chosen),
+        ..Closing::default()
     }
 }
 
 fn reply_length(row: StageRow, method: u8, count: usize, status: u8) -> bool
     ensures { result ≡ reply_length row method count status }
 {
-    let first = ((method == 0) & (count == 120)) | (!(method == 0) & (count == 56));
+    let first = ((method == TA) & (count == 120)) | ((method != TA) & (count == 56));
     let confirmed = ((count == 1) & (status == 1)) | ((count == 65) & (status == 0));
-    let second = ((method == 1) & (count == 1)) | (!(method == 1) & confirmed);
+    let second = ((method == IA) & (count == 1)) | ((method != IA) & confirmed);
     (row.asked & first) | (row.proving & second)
 }
 
@@ -93,10 +91,9 @@ fn reply_length(row: StageRow, method: u8, count: usize, status: u8) -> bool
 pub fn reply_work(f: ReaderFace, status: u8) -> ReplyWork
     ensures { result ≡ reply_work f status }
 {
-    let stage = f.stage;
-    let row = faces::reader::stage_row(stage);
+    let row = faces::reader::stage_row(f.stage);
     if row.asked {
-        if f.method == 0 {
+        if f.method == TA {
             return ReplyWork::Compare;
         }
         return ReplyWork::Answer;
@@ -104,7 +101,7 @@ pub fn reply_work(f: ReaderFace, status: u8) -> ReplyWork
     if status == 1 {
         return ReplyWork::Fail;
     }
-    if f.method == 1 {
+    if f.method == IA {
         return ReplyWork::Accept;
     }
     ReplyWork::Confirm
@@ -112,49 +109,44 @@ pub fn reply_work(f: ReaderFace, status: u8) -> ReplyWork
 
 // ---- messages
 
+#[tactic(auto, unfolding(crate::specs::ReaderRules::send_verdict))]
 pub fn send_verdict(f: ReaderFace, p: ShownMessage) -> Verdict
     ensures { result ≡ send_verdict f p }
 {
-    let stage = f.stage;
-    let row = faces::reader::stage_row(stage);
-    let may = may_talk(row, f, 0, p.kind);
+    let row = faces::reader::stage_row(f.stage);
+    let may = may_talk(row, f, TA, p.kind);
     let keeping = Keeping {
         buffer: p.room < AREA_BYTES,
-        argument: p.beyond | !((p.kind == 1) | (p.kind == 2)) | (DATA_BITS < p.count),
-        book: false,
-        error: false,
+        argument: p.beyond | !((p.kind == COMM) | (p.kind == SECURE)) | (DATA_BITS < p.count),
         work: !may,
+        ..Keeping::default()
     };
-    let closing = Closing {
-        kind: false,
-        length: false,
-        step: false,
-        key: false,
-        support: false,
-    };
-    order::verdict(keeping, closing)
+    order::verdict(keeping, send_closing())
 }
 
+// Nothing that is to be sent closes.
+fn send_closing() -> Closing
+    ensures { result ≡ send_closing }
+{
+    Closing::default()
+}
+
+#[tactic(auto, unfolding(crate::specs::ReaderRules::receive_verdict))]
 pub fn receive_verdict(f: ReaderFace, p: ShownMessage, zeros: bool) -> Verdict
     ensures { result ≡ receive_verdict f p zeros }
 {
-    let stage = f.stage;
-    let row = faces::reader::stage_row(stage);
-    let may = may_talk(row, f, 1, p.kind);
+    let row = faces::reader::stage_row(f.stage);
+    let may = may_talk(row, f, IA, p.kind);
     let fits = payloads::length_fits(f.width, p.count);
     let keeping = Keeping {
         buffer: p.room < AREA_BYTES,
-        argument: p.beyond | !((p.kind == 1) | (p.kind == 2)),
-        book: false,
-        error: false,
+        argument: p.beyond | !((p.kind == COMM) | (p.kind == SECURE)),
         work: !may,
+        ..Keeping::default()
     };
     let closing = Closing {
-        kind: false,
         length: !(fits & zeros),
-        step: false,
-        key: false,
-        support: false,
+        ..Closing::default()
     };
     order::verdict(keeping, closing)
 }
@@ -164,5 +156,5 @@ fn may_talk(row: StageRow, f: ReaderFace, silent: u8, kind: u8) -> bool
     ensures { result ≡ may_talk row f silent kind }
 {
     let enabled = payloads::secure(f.options);
-    row.opened & !(f.method == silent) & (!(kind == 2) | ((f.method == 2) & enabled))
+    row.opened & (f.method != silent) & ((kind != SECURE) | ((f.method == MA) & enabled))
 }

@@ -255,7 +255,7 @@ impl<'a, P: Print> Run<'a, P> {
 fn print_call(rt: &impl Print, name: &[u8], answer: Answer, count: usize, reply: &[u8]) {
     let mut line = Line::new();
     line.put(name);
-    line.spaced(answer.number() as u64);
+    line.spaced(u64::from(u8::from(answer)));
     line.spaced(count as u64);
     line.reply(reply, count);
     print(rt, &mut line);

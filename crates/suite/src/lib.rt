@@ -14,7 +14,7 @@ ghost use Rattle.machines.specs.TagWork.{reset_of, command_of, response_of, erro
 ghost use Rattle.machines.specs.ReaderWork.{reader_reset, begin_of, replied_of, sending_of, receiving_of};
 ghost use Rattle.suite.specs.Steps.{tag_step, reader_step};
 
-use rules::{Answer, Shown, ShownBegin, Verdict};
+use rules::{Answer, Shown, ShownBegin};
 use states::{ReaderState, TagState};
 
 // A tag: its stored state, and its calls.
@@ -104,8 +104,8 @@ impl Tag {
     {
         let t = self.state;
         match verdicts::tag::response(t, kind, data, count, reply.len()) {
-            Verdict::Refuse { closes, answer } => tag_work::refuse(t, closes, answer, reply),
-            Verdict::Go => tag_work::send(t, kind, data, count, reply),
+            Err(refused) => tag_work::refuse(t, refused.closes, refused.answer, reply),
+            Ok(()) => tag_work::send(t, kind, data, count, reply),
         }
     }
 
@@ -163,8 +163,8 @@ impl Reader {
             room: reply.len(),
         };
         match verdicts::reader::begin(t, shown) {
-            Verdict::Refuse { closes, answer } => reader_work::refuse(t, closes, answer, reply),
-            Verdict::Go => {
+            Err(refused) => reader_work::refuse(t, refused.closes, refused.answer, reply),
+            Ok(()) => {
                 let key = key.unwrap_or(b"");
                 let o = authentication::reader::begin(method, options, keyid, number, key);
                 reader_work::say(o, reply)
@@ -180,8 +180,8 @@ impl Reader {
         let t = self.state;
         let shown = rules::reader::reply_shown(payload, count, reply.len());
         match verdicts::reader::replied(t, shown) {
-            Verdict::Refuse { closes, answer } => reader_work::refuse(t, closes, answer, reply),
-            Verdict::Go => {
+            Err(refused) => reader_work::refuse(t, refused.closes, refused.answer, reply),
+            Ok(()) => {
                 let o = authentication::reader::answer(t, shown.status, payload);
                 reader_work::say(o, reply)
             }
@@ -195,8 +195,8 @@ impl Reader {
     {
         let t = self.state;
         match verdicts::reader::send(t, kind, data, count, reply.len()) {
-            Verdict::Refuse { closes, answer } => reader_work::refuse(t, closes, answer, reply),
-            Verdict::Go => reader_work::send(t, kind, data, count, reply),
+            Err(refused) => reader_work::refuse(t, refused.closes, refused.answer, reply),
+            Ok(()) => reader_work::send(t, kind, data, count, reply),
         }
     }
 
@@ -207,8 +207,8 @@ impl Reader {
     {
         let t = self.state;
         match verdicts::reader::receive(t, kind, payload, count, reply.len()) {
-            Verdict::Refuse { closes, answer } => reader_work::refuse(t, closes, answer, reply),
-            Verdict::Go => reader_work::receive(t, kind, payload, count, reply),
+            Err(refused) => reader_work::refuse(t, refused.closes, refused.answer, reply),
+            Ok(()) => reader_work::receive(t, kind, payload, count, reply),
         }
     }
 }

@@ -1,8 +1,7 @@
 // What a tag's call does once it is decided. MACs and data choose no branch here but through the verdict of a whole comparison.
-ghost use Rattle.std.specs.Prelude.{◌≡◌, cond, true, ◌+◌, ◌*◌, ◌≤◌, length};
+ghost use Rattle.std.specs.Prelude.{◌≡◌, cond, true, ◌+◌, ◌*◌, ◌≤◌, length, Ok};
 ghost use Rattle.grain.specs.Stored.{width_of};
 ghost use Rattle.payloads.specs.Payloads.{beyond_of};
-ghost use Rattle.rules.specs.declared.Verdict.TheVariants.{Go};
 ghost use Rattle.rules.specs.Results.{Gives, refused_by};
 ghost use Rattle.rules.specs.TagRules.{command_verdict, command_work};
 ghost use Rattle.states.specs.Sessions.{stored_width};
@@ -13,7 +12,7 @@ ghost use Rattle.suite.specs.Steps.{tag_step, outcome_of, taken_area, took_of};
 use crate::message::Received;
 use crate::{Step, Tag, message};
 use authentication::{TagOutcome, tag};
-use rules::{Answer, Shown, Verdict, Work};
+use rules::{Answer, Shown, Work};
 use states::{TagState, session};
 
 // ---- answers
@@ -64,13 +63,13 @@ pub(crate) fn carry(t: TagState, p: Shown, key: &[u8], payload: &[u8], reply: &m
     ensures { Gives tag_step (carried_of t p key.now payload.now) result reply.old reply.new }
 {
     match verdicts::tag::command(t, p) {
-        Verdict::Refuse { closes, answer } => refuse(t, closes, answer, reply),
-        Verdict::Go => work(t, p, key, payload, reply),
+        Err(refused) => refuse(t, refused.closes, refused.answer, reply),
+        Ok(()) => work(t, p, key, payload, reply),
     }
 }
 
 fn work(t: TagState, p: Shown, key: &[u8], payload: &[u8], reply: &mut [u8]) -> Step
-    requires { (sound_of t ≡ true) × ((p.beyond ≡ beyond_of payload.now p.count) × ((p.room ≡ length reply.old) × (command_verdict (face_of t) p ≡ Go))) }
+    requires { (sound_of t ≡ true) × ((p.beyond ≡ beyond_of payload.now p.count) × ((p.room ≡ length reply.old) × (command_verdict (face_of t) p ≡ Ok tt))) }
     ensures { Gives tag_step (worked_of (command_work (face_of t) p.kind) t p key.now payload.now) result reply.old reply.new }
 {
     let face = t.face();

@@ -113,7 +113,7 @@ fn print_refusal(rt: &impl Print, number: u64, why: Refusal) {
 fn print_step(rt: &impl Print, number: u64, step: Step, reply: &[u8]) {
     let mut line = Line::new();
     line.spaced(number);
-    line.spaced(step.answer.number() as u64);
+    line.spaced(u64::from(u8::from(step.answer)));
     line.put(name_of(step.next.state.face().name));
     line.put(b" ");
     line.spaced(step.bits as u64);

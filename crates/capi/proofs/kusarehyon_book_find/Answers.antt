@@ -24,4 +24,4 @@ pub returns : goal.returns
 unfolding find_called
 returns c =
     rw (le-ltb _ _ c.if-reply-lt-AREA_BYTES.false, granted _ c.sound.ensures c.if-not-sound.false, known _ _ _ c.in-Some.ensures)
-    (key-given _ _ _ c.in-Some.ensures _ _ _ c.number.ensures c.show.ensures)
+    (key-given _ _ _ c.in-Some.ensures _ _ _ c.from.ensures c.show.ensures)

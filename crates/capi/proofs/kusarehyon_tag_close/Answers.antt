@@ -8,10 +8,10 @@ use Rattle.capi.proofs.kusarehyon_tag_close.Goals as goal
 pub returns-then-not-spells : goal.returns-then-not-spells
 unfolding close_answer closed_block
 returns-then-not-spells c =
-    rw (denied _ c.spells.ensures c.if-not-spells.true) record { value = c.number.ensures; state_after = refl }
+    rw (denied _ c.spells.ensures c.if-not-spells.true) record { value = c.from.ensures; state_after = refl }
 
 pub returns : goal.returns
 unfolding close_answer closed_block
 returns c =
     let is = granted _ c.spells.ensures c.if-not-spells.false in
-    rw (is, ← c.read.ensures) record { value = c.number-2.ensures; state_after = rw (eq-eqb _ _ (tag-size _ is), c.close-closed.ensures) at c.store.ensures }
+    rw (is, ← c.read.ensures) record { value = c.from-2.ensures; state_after = rw (eq-eqb _ _ (tag-size _ is), c.close-closed.ensures) at c.store.ensures }

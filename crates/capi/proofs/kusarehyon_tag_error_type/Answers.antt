@@ -5,7 +5,7 @@ use Rattle.capi.proofs.kusarehyon_tag_error_type.Goals as goal
 
 pub returns-then-not-spells : goal.returns-then-not-spells
 unfolding error_type_called
-returns-then-not-spells c = rw (denied _ c.spells.ensures c.if-not-spells.true) c.number.ensures
+returns-then-not-spells c = rw (denied _ c.spells.ensures c.if-not-spells.true) c.from.ensures
 
 pub returns : goal.returns
 unfolding error_type_called

@@ -8,4 +8,4 @@ pub returns : goal.returns
 unfolding reader_block
 returns c =
     rw (eq-eqb _ _ c.if-block-ne-BYTES.false, ← c.face-face.ensures, ← c.session-session.ensures)
-    (reader-put c.args.block.now _ _ _ c.face-face.result _ _ c.if-block-ne-BYTES.false c.number.ensures c.put_head.ensures c.put_session.ensures c.put_number.ensures)
+    (reader-put c.args.block.now _ _ _ c.face-face.result _ _ c.if-block-ne-BYTES.false c.from.ensures c.put_head.ensures c.put_session.ensures c.put_number.ensures)

@@ -8,4 +8,4 @@ pub returns : goal.returns
 unfolding tag_block
 returns c =
     rw (eq-eqb _ _ c.if-block-ne-BYTES.false, ← c.face-face.ensures, ← c.session-session.ensures)
-    (tag-put c.args.block.now _ _ c.face-face.result _ _ c.if-block-ne-BYTES.false c.number.ensures c.put_head.ensures c.put_session.ensures)
+    (tag-put c.args.block.now _ _ c.face-face.result _ _ c.if-block-ne-BYTES.false c.from.ensures c.put_head.ensures c.put_session.ensures)

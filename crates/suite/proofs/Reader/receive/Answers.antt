@@ -9,19 +9,19 @@ use Rattle.machines.specs.ReaderWork.{receiving_of}
 use Rattle.machines.proofs.ReaderSound.{reader-face-sound}
 use Rattle.suite.proofs.Reader.receive.Goals as goal
 
-pub receive-requires-in-Go : goal.receive-requires-in-Go
-receive-requires-in-Go c =
+pub receive-requires-in-Ok : goal.receive-requires-in-Ok
+receive-requires-in-Ok c =
     let a = c.args in
-    let g = sound_goes _ _ (sym c.receive.ensures ∙ c.in-Go.is) in
+    let g = sound_goes _ _ (sym c.receive.ensures ∙ c.in-Ok.is) in
     let r = receive_receivable _ _ _ g.1 (reader-face-sound a.self.state g.0) (length a.payload.now) refl in
     (receive-room _ _ _ g.1, (rw (width-stored _ r.wide r.width) r.least, (r.most, r.within)))
 
-pub returns-in-Refuse : goal.returns-in-Refuse
+pub returns-in-Err : goal.returns-in-Err
 unfolding receiving_of decided
-returns-in-Refuse c =
-    rw (sym c.receive.ensures ∙ c.in-Refuse.is) c.refuse.ensures
+returns-in-Err c =
+    rw (sym c.receive.ensures ∙ c.in-Err.is) c.refuse.ensures
 
-pub returns-in-Go : goal.returns-in-Go
+pub returns-in-Ok : goal.returns-in-Ok
 unfolding receiving_of decided
-returns-in-Go c =
-    rw (sym c.receive.ensures ∙ c.in-Go.is) c.receive-in-Go.ensures
+returns-in-Ok c =
+    rw (sym c.receive.ensures ∙ c.in-Ok.is) c.receive-in-Ok.ensures

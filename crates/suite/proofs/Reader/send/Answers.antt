@@ -7,19 +7,19 @@ use Rattle.rules.proofs.Verdicts.{sound_goes}
 use Rattle.machines.specs.ReaderWork.{sending_of}
 use Rattle.suite.proofs.Reader.send.Goals as goal
 
-pub send-requires-in-Go : goal.send-requires-in-Go
-send-requires-in-Go c =
+pub send-requires-in-Ok : goal.send-requires-in-Ok
+send-requires-in-Ok c =
     let a = c.args in
-    let g = sound_goes _ _ (sym c.send.ensures ∙ c.in-Go.is) in
+    let g = sound_goes _ _ (sym c.send.ensures ∙ c.in-Ok.is) in
     let s = send_sendable _ _ g.1 (length a.«data».now) refl in
     (s.roomy, (s.most, s.within))
 
-pub returns-in-Refuse : goal.returns-in-Refuse
+pub returns-in-Err : goal.returns-in-Err
 unfolding sending_of decided
-returns-in-Refuse c =
-    rw (sym c.send.ensures ∙ c.in-Refuse.is) c.refuse.ensures
+returns-in-Err c =
+    rw (sym c.send.ensures ∙ c.in-Err.is) c.refuse.ensures
 
-pub returns-in-Go : goal.returns-in-Go
+pub returns-in-Ok : goal.returns-in-Ok
 unfolding sending_of decided
-returns-in-Go c =
-    rw (sym c.send.ensures ∙ c.in-Go.is) c.send-in-Go.ensures
+returns-in-Ok c =
+    rw (sym c.send.ensures ∙ c.in-Ok.is) c.send-in-Ok.ensures

@@ -10,16 +10,16 @@ use Rattle.suite.proofs.Tag.response.Goals as goal
 pub send-requires : goal.send-requires
 send-requires c =
     let a = c.args in
-    let g = sound_goes _ _ (sym c.response.ensures ∙ c.in-Go.is) in
+    let g = sound_goes _ _ (sym c.response.ensures ∙ c.in-Ok.is) in
     let s = response_sendable _ _ g.1 (length a.«data».now) refl in
     (s.roomy, (s.most, s.within))
 
-pub returns-in-Refuse : goal.returns-in-Refuse
+pub returns-in-Err : goal.returns-in-Err
 unfolding response_of decided
-returns-in-Refuse c =
-    rw (sym c.response.ensures ∙ c.in-Refuse.is) c.refuse.ensures
+returns-in-Err c =
+    rw (sym c.response.ensures ∙ c.in-Err.is) c.refuse.ensures
 
-pub returns-in-Go : goal.returns-in-Go
+pub returns-in-Ok : goal.returns-in-Ok
 unfolding response_of decided
-returns-in-Go c =
-    rw (sym c.response.ensures ∙ c.in-Go.is) c.send.ensures
+returns-in-Ok c =
+    rw (sym c.response.ensures ∙ c.in-Ok.is) c.send.ensures

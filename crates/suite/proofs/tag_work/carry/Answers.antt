@@ -8,15 +8,15 @@ use Rattle.suite.proofs.tag_work.carry.Goals as goal
 pub work-requires : goal.work-requires
 work-requires c =
     let p = c.requires in
-    let g = sound_goes _ _ (sym c.command.ensures ∙ c.in-Go.is) in
+    let g = sound_goes _ _ (sym c.command.ensures ∙ c.in-Ok.is) in
     (g.0, (p.0, (p.1, g.1)))
 
-pub returns-in-Refuse : goal.returns-in-Refuse
+pub returns-in-Err : goal.returns-in-Err
 unfolding carried_of decided
-returns-in-Refuse c =
-    rw (sym c.command.ensures ∙ c.in-Refuse.is) c.refuse.ensures
+returns-in-Err c =
+    rw (sym c.command.ensures ∙ c.in-Err.is) c.refuse.ensures
 
-pub returns-in-Go : goal.returns-in-Go
+pub returns-in-Ok : goal.returns-in-Ok
 unfolding carried_of decided
-returns-in-Go c =
-    rw (sym c.command.ensures ∙ c.in-Go.is) c.work.ensures
+returns-in-Ok c =
+    rw (sym c.command.ensures ∙ c.in-Ok.is) c.work.ensures
