@@ -12,7 +12,8 @@ ghost use Rattle.capi.specs.Calls.{Leaves, tag_reset_called, command_called, res
 
 use frames::{Scanned, Written};
 use rules::Answer;
-use suite::{Reader, ReaderStep, Step, Tag};
+use states::{ReaderState, TagState};
+use suite::{Reader, Step, Tag};
 
 // A key's bits.
 const KEY_BITS: usize = 8 * book::KEY_BYTES;
@@ -296,7 +297,7 @@ fn refused(answer: Answer, reply: &mut [u8], bits: &mut usize) -> u8
     answer.number()
 }
 
-fn stepped(state: &mut [u8], step: Step, bits: &mut usize) -> u8
+fn stepped(state: &mut [u8], step: Step<TagState>, bits: &mut usize) -> u8
     ensures value { result ≡ number_of step.answer }
     ensures bits_after { bits.new ≡ step.bits }
     ensures state_after { state.new ≡ stored_in tag_bytes (tag_block step.next.state) state.old }
@@ -308,7 +309,7 @@ fn stepped(state: &mut [u8], step: Step, bits: &mut usize) -> u8
     answer.number()
 }
 
-fn reader_stepped(state: &mut [u8], step: ReaderStep, bits: &mut usize) -> u8
+fn reader_stepped(state: &mut [u8], step: Step<ReaderState>, bits: &mut usize) -> u8
     ensures value { result ≡ number_of step.answer }
     ensures bits_after { bits.new ≡ step.bits }
     ensures state_after { state.new ≡ stored_in reader_bytes (reader_block step.next.state) state.old }

@@ -175,34 +175,34 @@ gives : (n : ℕ) {S T : Type 0} {step_of : Result S → T} {r : Result S} {b : 
     → Gives step_of r x.0 b (after n _ x.1).0 → Gives step_of r y.0 b (after n _ y.1).0 → x ≡ y
 gives n p q = part p.step q.step (past n _ (part p.reply q.reply refl))
 
-pub tag-reset : Determines SuiteContracts.Tag.reset.ended Suite.Tag.reset.Reads.Post
+pub tag-reset : Determines SuiteContracts.Machine+TagState.reset.ended Suite.Machine+TagState.reset.Reads.Post
 tag-reset κs a x y p q = gives 0 p q
 
-pub command : Determines SuiteContracts.Tag.command.ended Suite.Tag.command.Reads.Post
+pub command : Determines SuiteContracts.Machine+TagState.command.ended Suite.Machine+TagState.command.Reads.Post
 command κs a x y p q = gives 7 p q
 
-pub response : Determines SuiteContracts.Tag.response.ended Suite.Tag.response.Reads.Post
+pub response : Determines SuiteContracts.Machine+TagState.response.ended Suite.Machine+TagState.response.Reads.Post
 response κs a x y p q = gives 4 p q
 
-pub close : Determines SuiteContracts.Tag.close.ended Suite.Tag.close.Reads.Post
+pub close : Determines SuiteContracts.Machine+TagState.close.ended Suite.Machine+TagState.close.Reads.Post
 close κs a x y p q = part p q refl
 
-pub error_type_lem : Determines SuiteContracts.Tag.error_type.ended Suite.Tag.error_type.Reads.Post
+pub error_type_lem : Determines SuiteContracts.Machine+TagState.error_type.ended Suite.Machine+TagState.error_type.Reads.Post
 error_type_lem κs a x y p q = part p q refl
 
-pub reader-reset : Determines SuiteContracts.Reader.reset.ended Suite.Reader.reset.Reads.Post
+pub reader-reset : Determines SuiteContracts.Machine+ReaderState.reset.ended Suite.Machine+ReaderState.reset.Reads.Post
 reader-reset κs a x y p q = gives 0 p q
 
-pub begin : Determines SuiteContracts.Reader.begin.ended Suite.Reader.begin.Reads.Post
+pub begin : Determines SuiteContracts.Machine+ReaderState.begin.ended Suite.Machine+ReaderState.begin.Reads.Post
 begin κs a x y p q = gives 6 p q
 
-pub replied : Determines SuiteContracts.Reader.replied.ended Suite.Reader.replied.Reads.Post
+pub replied : Determines SuiteContracts.Machine+ReaderState.replied.ended Suite.Machine+ReaderState.replied.Reads.Post
 replied κs a x y p q = gives 3 p q
 
-pub send : Determines SuiteContracts.Reader.send.ended Suite.Reader.send.Reads.Post
+pub send : Determines SuiteContracts.Machine+ReaderState.send.ended Suite.Machine+ReaderState.send.Reads.Post
 send κs a x y p q = gives 4 p q
 
-pub receive : Determines SuiteContracts.Reader.receive.ended Suite.Reader.receive.Reads.Post
+pub receive : Determines SuiteContracts.Machine+ReaderState.receive.ended Suite.Machine+ReaderState.receive.Reads.Post
 receive κs a x y p q = gives 4 p q
 
 -- ---- host

@@ -4,7 +4,8 @@
 #![tactic(auto)]
 
 use rules::Answer;
-use suite::{Reader, ReaderStep, Step, Tag};
+use states::{ReaderState, TagState};
+use suite::{Reader, Step, Tag};
 
 // The methods, by their numbers in a payload: TA, IA, MA.
 const TA: u8 = 0;
@@ -221,7 +222,13 @@ fn receive(rt: &impl Print, run: Run, kind: u8, message: &[u8], reply: &mut [u8]
     after_reader(rt, b"reader receive ", run, step, reply)
 }
 
-fn after_reader(rt: &impl Print, name: &[u8], run: Run, step: ReaderStep, reply: &[u8]) -> Run {
+fn after_reader(
+    rt: &impl Print,
+    name: &[u8],
+    run: Run,
+    step: Step<ReaderState>,
+    reply: &[u8],
+) -> Run {
     let answer = step.answer;
     print_call(rt, name, answer, step.bits, reply);
     let reader = step.next;
@@ -245,7 +252,7 @@ fn response(rt: &impl Print, run: Run, wanted: u8, count: usize, reply: &mut [u8
     after_tag(rt, b"tag response ", run, step, reply)
 }
 
-fn after_tag(rt: &impl Print, name: &[u8], run: Run, step: Step, reply: &[u8]) -> Run {
+fn after_tag(rt: &impl Print, name: &[u8], run: Run, step: Step<TagState>, reply: &[u8]) -> Run {
     let answer = step.answer;
     print_call(rt, name, answer, step.bits, reply);
     let reader = run.reader;

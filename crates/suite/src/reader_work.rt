@@ -3,33 +3,38 @@ ghost use Rattle.std.specs.Prelude.{◌≡◌, cond, ◌+◌, ◌*◌, ◌≤◌
 ghost use Rattle.grain.specs.Stored.{width_of};
 ghost use Rattle.rules.specs.Results.{Gives, refused_by};
 ghost use Rattle.states.specs.Sessions.{stored_width};
-ghost use Rattle.states.specs.ReaderStates.{reader_face_of, closed_reader};
+ghost use Rattle.states.specs.ReaderStates.{reader_face_of, closed_reader, with_reader_session};
 ghost use Rattle.machines.specs.ReaderWork.{sent_by, received_by};
-ghost use Rattle.suite.specs.Steps.{reader_step, reader_outcome_of, taken_area, reader_took_of};
+ghost use Rattle.suite.specs.Steps.{step_of, outcome_of, taken_area, took_of};
 
 use crate::message::Received;
-use crate::{Reader, ReaderStep, message};
-use authentication::ReaderOutcome;
+use crate::{Machine, Step, message};
+use authentication::Outcome;
 use rules::Answer;
 use states::{ReaderState, session};
 
 // ---- answers
 
 // An answer with no bits.
-pub(crate) fn left(state: ReaderState, answer: Answer, reply: &mut [u8]) -> ReaderStep
-    ensures { Gives reader_step (refused_by state answer) result reply.old reply.new }
+pub(crate) fn left(state: ReaderState, answer: Answer, reply: &mut [u8]) -> Step<ReaderState>
+    ensures { Gives step_of (refused_by state answer) result reply.old reply.new }
 {
     bits::clear(reply);
-    let next = Reader { state };
-    ReaderStep {
+    let next = Machine { state };
+    Step {
         next,
         answer,
         bits: 0,
     }
 }
 
-pub(crate) fn refuse(r: ReaderState, closes: bool, answer: Answer, reply: &mut [u8]) -> ReaderStep
-    ensures { Gives reader_step (refused_by (cond closes closed_reader r) answer) result reply.old reply.new }
+pub(crate) fn refuse(
+    r: ReaderState,
+    closes: bool,
+    answer: Answer,
+    reply: &mut [u8],
+) -> Step<ReaderState>
+    ensures { Gives step_of (refused_by (cond closes closed_reader r) answer) result reply.old reply.new }
 {
     let state = refused(r, closes);
     left(state, answer, reply)
@@ -42,15 +47,15 @@ fn refused(r: ReaderState, closes: bool) -> ReaderState
 }
 
 // An authentication's reply is written.
-pub(crate) fn say(o: ReaderOutcome, reply: &mut [u8]) -> ReaderStep
-    ensures { Gives reader_step (reader_outcome_of o) result reply.old reply.new }
+pub(crate) fn say(o: Outcome<ReaderState>, reply: &mut [u8]) -> Step<ReaderState>
+    ensures { Gives step_of (outcome_of o) result reply.old reply.new }
 {
     let payload = o.reply;
     let bits = payloads::write(payload, reply);
     let answer = o.answer;
     let state = o.next;
-    let next = Reader { state };
-    ReaderStep { next, answer, bits }
+    let next = Machine { state };
+    Step { next, answer, bits }
 }
 
 // ---- messages
@@ -61,18 +66,18 @@ pub(crate) fn send(
     data: &[u8],
     count: usize,
     reply: &mut [u8],
-) -> ReaderStep
+) -> Step<ReaderState>
     requires { (265 ≤ length reply.old) × ((count ≤ 2048) × (count ≤ 8 * length «data».now)) }
-    ensures { Gives reader_step (sent_by r (record { kind = kind; payload = «data».now; count = count })) result reply.old reply.new }
+    ensures { Gives step_of (sent_by r (record { kind = kind; payload = «data».now; count = count })) result reply.old reply.new }
 {
     let face = r.face();
     let s = r.session();
     let width = session::stored_width(face.width);
     let x = message::send(s, width, kind == 2, data, count, reply);
-    let next = Reader {
+    let next = Machine {
         state: r.with_session(x),
     };
-    ReaderStep {
+    Step {
         next,
         answer: Answer::Done,
         bits: count + 8 + width.bits(),
@@ -85,9 +90,9 @@ pub(crate) fn receive(
     payload: &[u8],
     count: usize,
     reply: &mut [u8],
-) -> ReaderStep
+) -> Step<ReaderState>
     requires { (265 ≤ length reply.old) × ((8 + width_of (stored_width (reader_face_of r).width) ≤ count) × ((count ≤ 2120) × (count ≤ 8 * length payload.now))) }
-    ensures { Gives reader_step (received_by r (record { kind = kind; payload = payload.now; count = count })) result reply.old reply.new }
+    ensures { Gives step_of (received_by r (record { kind = kind; payload = payload.now; count = count })) result reply.old reply.new }
 {
     let face = r.face();
     let s = r.session();
@@ -96,15 +101,15 @@ pub(crate) fn receive(
     took(r, found, reply)
 }
 
-fn took(r: ReaderState, found: Received, reply: &mut [u8]) -> ReaderStep
-    ensures { (result ≡ reader_took_of r found) × (reply.new ≡ taken_area found.same reply.old) }
+fn took(r: ReaderState, found: Received, reply: &mut [u8]) -> Step<ReaderState>
+    ensures { (result ≡ took_of (with_reader_session r found.session) closed_reader found) × (reply.new ≡ taken_area found.same reply.old) }
 {
     if found.same {
         let x = found.session;
-        let next = Reader {
+        let next = Machine {
             state: r.with_session(x),
         };
-        return ReaderStep {
+        return Step {
             next,
             answer: Answer::Done,
             bits: found.bits,

@@ -6,24 +6,24 @@ ghost use Rattle.rules.specs.declared.Verdict.TheVariants.{Go};
 ghost use Rattle.rules.specs.Results.{Gives, refused_by};
 ghost use Rattle.rules.specs.TagRules.{command_verdict, command_work};
 ghost use Rattle.states.specs.Sessions.{stored_width};
-ghost use Rattle.states.specs.TagStates.{face_of, sound_of, closed_tag};
+ghost use Rattle.states.specs.TagStates.{face_of, sound_of, closed_tag, with_session};
 ghost use Rattle.machines.specs.TagWork.{receive_of, send_of, worked_of, carried_of};
-ghost use Rattle.suite.specs.Steps.{tag_step, outcome_of, taken_area, took_of};
+ghost use Rattle.suite.specs.Steps.{step_of, outcome_of, taken_area, took_of};
 
 use crate::message::Received;
-use crate::{Step, Tag, message};
-use authentication::{TagOutcome, tag};
+use crate::{Machine, Step, message};
+use authentication::{Outcome, tag};
 use rules::{Answer, Shown, Verdict, Work};
 use states::{TagState, session};
 
 // ---- answers
 
 // An answer with no bits.
-pub(crate) fn left(state: TagState, answer: Answer, reply: &mut [u8]) -> Step
-    ensures { Gives tag_step (refused_by state answer) result reply.old reply.new }
+pub(crate) fn left(state: TagState, answer: Answer, reply: &mut [u8]) -> Step<TagState>
+    ensures { Gives step_of (refused_by state answer) result reply.old reply.new }
 {
     bits::clear(reply);
-    let next = Tag { state };
+    let next = Machine { state };
     Step {
         next,
         answer,
@@ -31,8 +31,8 @@ pub(crate) fn left(state: TagState, answer: Answer, reply: &mut [u8]) -> Step
     }
 }
 
-pub(crate) fn refuse(t: TagState, closes: bool, answer: Answer, reply: &mut [u8]) -> Step
-    ensures { Gives tag_step (refused_by (cond closes (closed_tag t) t) answer) result reply.old reply.new }
+pub(crate) fn refuse(t: TagState, closes: bool, answer: Answer, reply: &mut [u8]) -> Step<TagState>
+    ensures { Gives step_of (refused_by (cond closes (closed_tag t) t) answer) result reply.old reply.new }
 {
     let state = refused(t, closes);
     left(state, answer, reply)
@@ -45,23 +45,29 @@ fn refused(t: TagState, closes: bool) -> TagState
 }
 
 // An authentication's reply is written.
-fn say(o: TagOutcome, reply: &mut [u8]) -> Step
-    ensures { Gives tag_step (outcome_of o) result reply.old reply.new }
+fn say(o: Outcome<TagState>, reply: &mut [u8]) -> Step<TagState>
+    ensures { Gives step_of (outcome_of o) result reply.old reply.new }
 {
     let payload = o.reply;
     let bits = payloads::write(payload, reply);
     let answer = o.answer;
     let state = o.next;
-    let next = Tag { state };
+    let next = Machine { state };
     Step { next, answer, bits }
 }
 
 // ---- a command
 
 // A command, by what it shows, its key and its payload.
-pub(crate) fn carry(t: TagState, p: Shown, key: &[u8], payload: &[u8], reply: &mut [u8]) -> Step
+pub(crate) fn carry(
+    t: TagState,
+    p: Shown,
+    key: &[u8],
+    payload: &[u8],
+    reply: &mut [u8],
+) -> Step<TagState>
     requires { (p.beyond ≡ beyond_of payload.now p.count) × (p.room ≡ length reply.old) }
-    ensures { Gives tag_step (carried_of t p key.now payload.now) result reply.old reply.new }
+    ensures { Gives step_of (carried_of t p key.now payload.now) result reply.old reply.new }
 {
     match verdicts::tag::command(t, p) {
         Verdict::Refuse { closes, answer } => refuse(t, closes, answer, reply),
@@ -69,9 +75,9 @@ pub(crate) fn carry(t: TagState, p: Shown, key: &[u8], payload: &[u8], reply: &m
     }
 }
 
-fn work(t: TagState, p: Shown, key: &[u8], payload: &[u8], reply: &mut [u8]) -> Step
+fn work(t: TagState, p: Shown, key: &[u8], payload: &[u8], reply: &mut [u8]) -> Step<TagState>
     requires { (sound_of t ≡ true) × ((p.beyond ≡ beyond_of payload.now p.count) × ((p.room ≡ length reply.old) × (command_verdict (face_of t) p ≡ Go))) }
-    ensures { Gives tag_step (worked_of (command_work (face_of t) p.kind) t p key.now payload.now) result reply.old reply.new }
+    ensures { Gives step_of (worked_of (command_work (face_of t) p.kind) t p key.now payload.now) result reply.old reply.new }
 {
     let face = t.face();
     match rules::tag::command_work(face, p.kind) {
@@ -83,9 +89,9 @@ fn work(t: TagState, p: Shown, key: &[u8], payload: &[u8], reply: &mut [u8]) -> 
 
 // ---- messages
 
-fn receive(t: TagState, p: Shown, payload: &[u8], reply: &mut [u8]) -> Step
+fn receive(t: TagState, p: Shown, payload: &[u8], reply: &mut [u8]) -> Step<TagState>
     requires { (265 ≤ length reply.old) × ((8 + width_of (stored_width (face_of t).width) ≤ p.count) × ((p.count ≤ 2120) × (p.count ≤ 8 * length payload.now))) }
-    ensures { Gives tag_step (receive_of t p payload.now) result reply.old reply.new }
+    ensures { Gives step_of (receive_of t p payload.now) result reply.old reply.new }
 {
     let face = t.face();
     let s = t.session();
@@ -94,12 +100,12 @@ fn receive(t: TagState, p: Shown, payload: &[u8], reply: &mut [u8]) -> Step
     took(t, found, reply)
 }
 
-fn took(t: TagState, found: Received, reply: &mut [u8]) -> Step
-    ensures { (result ≡ took_of t found) × (reply.new ≡ taken_area found.same reply.old) }
+fn took(t: TagState, found: Received, reply: &mut [u8]) -> Step<TagState>
+    ensures { (result ≡ took_of (with_session t found.session) (closed_tag t) found) × (reply.new ≡ taken_area found.same reply.old) }
 {
     if found.same {
         let x = found.session;
-        let next = Tag {
+        let next = Machine {
             state: t.with_session(x),
         };
         return Step {
@@ -111,15 +117,21 @@ fn took(t: TagState, found: Received, reply: &mut [u8]) -> Step
     left(t.closed(), Answer::Mismatch, reply)
 }
 
-pub(crate) fn send(t: TagState, kind: u8, data: &[u8], count: usize, reply: &mut [u8]) -> Step
+pub(crate) fn send(
+    t: TagState,
+    kind: u8,
+    data: &[u8],
+    count: usize,
+    reply: &mut [u8],
+) -> Step<TagState>
     requires { (265 ≤ length reply.old) × ((count ≤ 2048) × (count ≤ 8 * length «data».now)) }
-    ensures { Gives tag_step (send_of t (record { kind = kind; payload = «data».now; count = count })) result reply.old reply.new }
+    ensures { Gives step_of (send_of t (record { kind = kind; payload = «data».now; count = count })) result reply.old reply.new }
 {
     let face = t.face();
     let s = t.session();
     let width = session::stored_width(face.width);
     let x = message::send(s, width, kind == 5, data, count, reply);
-    let next = Tag {
+    let next = Machine {
         state: t.with_session(x),
     };
     Step {

@@ -5,6 +5,7 @@ ghost use Rattle.std.specs.Prelude.{◌≤◌, length};
 
 use faces::Name;
 use frames::{Refusal, Scanned};
+use states::TagState;
 use std::io::Read;
 use suite::{Step, Tag};
 
@@ -107,7 +108,7 @@ fn print_refusal(rt: &impl Print, number: u64, why: Refusal) {
 }
 
 // Frame number, answer, state, reply bits, reply.
-fn print_step(rt: &impl Print, number: u64, step: Step, reply: &[u8]) {
+fn print_step(rt: &impl Print, number: u64, step: Step<TagState>, reply: &[u8]) {
     let answer = step.answer;
     let name = step.next.state.face().name;
     let mut line = [0u8; LINE_BYTES];

@@ -1,8 +1,8 @@
--- `suite::Tag::command` meets its contract.
+-- `suite::Machine<TagState>::command` meets its contract.
 use Rattle.machines.specs.TagWork.{command_of}
 use Rattle.rules.specs.TagRules.{shown_of}
 use Rattle.rules.proofs.TagLaws.{key_known}
-use Rattle.suite.proofs.Tag.command.Goals as goal
+use Rattle.suite.proofs.Machine+TagState.command.Goals as goal
 
 pub returns : goal.returns
 unfolding command_of shown_of

@@ -1,9 +1,9 @@
--- `suite::Reader::begin` meets its contract.
+-- `suite::Machine<ReaderState>::begin` meets its contract.
 use mathlib.Core.Path.{sym}
 use Rattle.rules.specs.Results.{decided}
 use Rattle.book.proofs.Laws.{key-length}
 use Rattle.machines.specs.ReaderWork.{begin_of}
-use Rattle.suite.proofs.Reader.begin.Goals as goal
+use Rattle.suite.proofs.Machine+ReaderState.begin.Goals as goal
 
 pub returns-in-Refuse : goal.returns-in-Refuse
 unfolding begin_of decided

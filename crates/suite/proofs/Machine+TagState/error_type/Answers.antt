@@ -1,6 +1,6 @@
--- `suite::Tag::error_type` meets its contract.
+-- `suite::Machine<TagState>::error_type` meets its contract.
 use Rattle.machines.specs.TagWork.{error_type_of}
-use Rattle.suite.proofs.Tag.error_type.Goals as goal
+use Rattle.suite.proofs.Machine+TagState.error_type.Goals as goal
 
 pub returns-then-sound : goal.returns-then-sound
 unfolding error_type_of

@@ -1,11 +1,11 @@
--- `suite::Reader::send` meets its contract.
+-- `suite::Machine<ReaderState>::send` meets its contract.
 use mathlib.Core.Path.{refl, sym, ◌∙◌}
 use lib.ListN.{length}
 use Rattle.rules.specs.Results.{decided}
 use Rattle.rules.proofs.ReaderLaws.{send_sendable}
 use Rattle.rules.proofs.Verdicts.{sound_goes}
 use Rattle.machines.specs.ReaderWork.{sending_of}
-use Rattle.suite.proofs.Reader.send.Goals as goal
+use Rattle.suite.proofs.Machine+ReaderState.send.Goals as goal
 
 pub send-requires-in-Go : goal.send-requires-in-Go
 send-requires-in-Go c =
