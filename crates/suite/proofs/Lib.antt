@@ -1,2 +1,1 @@
 -- The laws that proofs here cite.
-mod Giving

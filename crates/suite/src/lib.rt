@@ -3,9 +3,8 @@
 // call is refused for `verdicts` decides: whether the stored state is sound, and then `rules` on public parts; the rest is work.
 #![tactic(auto)]
 
-mod message;
-mod reader_work;
 mod tag_work;
+mod work;
 
 ghost use Rattle.std.specs.Prelude.{◌≡◌, length};
 ghost use Rattle.rules.specs.Results.{Gives};
@@ -49,7 +48,7 @@ impl Machine<TagState> {
     pub fn reset(reply: &mut [u8]) -> Step<TagState>
         ensures { Gives step_of reset_of result reply.old reply.new }
     {
-        tag_work::left(TagState::reset(), Answer::Done, reply)
+        work::left(TagState::reset(), Answer::Done, reply)
     }
 
     // A command: `kind` 0 authentication, 1 comm, 2 secure, 3 key update; the first `count` bits of `payload`; the tag's features,
@@ -94,8 +93,8 @@ impl Machine<TagState> {
     {
         let t = self.state;
         match verdicts::tag::response(t, kind, data, count, reply.len()) {
-            Verdict::Refuse { closes, answer } => tag_work::refuse(t, closes, answer, reply),
-            Verdict::Go => tag_work::send(t, kind, data, count, reply),
+            Verdict::Refuse { closes, answer } => work::refuse(t, closes, answer, reply),
+            Verdict::Go => work::send(t, kind == 5, data, count, reply),
         }
     }
 
@@ -126,7 +125,7 @@ impl Machine<ReaderState> {
     pub fn reset(reply: &mut [u8]) -> Step<ReaderState>
         ensures { Gives step_of reader_reset result reply.old reply.new }
     {
-        reader_work::left(ReaderState::reset(), Answer::Done, reply)
+        work::left(ReaderState::reset(), Answer::Done, reply)
     }
 
     // Begins an authentication with the reader's `number`; the reply is the step 0 command.
@@ -153,10 +152,10 @@ impl Machine<ReaderState> {
             room: reply.len(),
         };
         match verdicts::reader::begin(t, shown) {
-            Verdict::Refuse { closes, answer } => reader_work::refuse(t, closes, answer, reply),
+            Verdict::Refuse { closes, answer } => work::refuse(t, closes, answer, reply),
             Verdict::Go => {
                 let o = authentication::reader::begin(method, options, keyid, number, key);
-                reader_work::say(o, reply)
+                work::say(o, reply)
             }
         }
     }
@@ -169,10 +168,10 @@ impl Machine<ReaderState> {
         let t = self.state;
         let shown = rules::reader::reply_shown(payload, count, reply.len());
         match verdicts::reader::replied(t, shown) {
-            Verdict::Refuse { closes, answer } => reader_work::refuse(t, closes, answer, reply),
+            Verdict::Refuse { closes, answer } => work::refuse(t, closes, answer, reply),
             Verdict::Go => {
                 let o = authentication::reader::answer(t, shown.status, payload);
-                reader_work::say(o, reply)
+                work::say(o, reply)
             }
         }
     }
@@ -184,8 +183,8 @@ impl Machine<ReaderState> {
     {
         let t = self.state;
         match verdicts::reader::send(t, kind, data, count, reply.len()) {
-            Verdict::Refuse { closes, answer } => reader_work::refuse(t, closes, answer, reply),
-            Verdict::Go => reader_work::send(t, kind, data, count, reply),
+            Verdict::Refuse { closes, answer } => work::refuse(t, closes, answer, reply),
+            Verdict::Go => work::send(t, kind == 2, data, count, reply),
         }
     }
 
@@ -202,8 +201,8 @@ impl Machine<ReaderState> {
     {
         let t = self.state;
         match verdicts::reader::receive(t, kind, payload, count, reply.len()) {
-            Verdict::Refuse { closes, answer } => reader_work::refuse(t, closes, answer, reply),
-            Verdict::Go => reader_work::receive(t, kind, payload, count, reply),
+            Verdict::Refuse { closes, answer } => work::refuse(t, closes, answer, reply),
+            Verdict::Go => work::receive(t, kind == 2, payload, count, reply),
         }
     }
 }

@@ -5,7 +5,7 @@ use Rattle.rules.specs.Results.{decided}
 use Rattle.rules.proofs.ReaderLaws.{receive-room, receive_receivable}
 use Rattle.rules.proofs.Verdicts.{sound_goes}
 use Rattle.states.proofs.Sessions.{width-stored}
-use Rattle.machines.specs.ReaderWork.{receiving_of}
+use Rattle.machines.specs.ReaderWork.{received_by, receiving_of}
 use Rattle.machines.proofs.ReaderSound.{reader-face-sound}
 use Rattle.suite.proofs.Machine+ReaderState.receive.Goals as goal
 
@@ -22,6 +22,6 @@ returns-in-Refuse c =
     rw (sym c.receive.ensures ∙ c.in-Refuse.is) c.refuse.ensures
 
 pub returns-in-Go : goal.returns-in-Go
-unfolding receiving_of decided
+unfolding receiving_of received_by decided
 returns-in-Go c =
     rw (sym c.receive.ensures ∙ c.in-Go.is) c.receive-in-Go.ensures

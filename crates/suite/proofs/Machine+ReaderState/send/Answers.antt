@@ -4,7 +4,7 @@ use lib.ListN.{length}
 use Rattle.rules.specs.Results.{decided}
 use Rattle.rules.proofs.ReaderLaws.{send_sendable}
 use Rattle.rules.proofs.Verdicts.{sound_goes}
-use Rattle.machines.specs.ReaderWork.{sending_of}
+use Rattle.machines.specs.ReaderWork.{sent_by, sending_of}
 use Rattle.suite.proofs.Machine+ReaderState.send.Goals as goal
 
 pub send-requires-in-Go : goal.send-requires-in-Go
@@ -20,6 +20,6 @@ returns-in-Refuse c =
     rw (sym c.send.ensures ∙ c.in-Refuse.is) c.refuse.ensures
 
 pub returns-in-Go : goal.returns-in-Go
-unfolding sending_of decided
+unfolding sending_of sent_by decided
 returns-in-Go c =
     rw (sym c.send.ensures ∙ c.in-Go.is) c.send-in-Go.ensures

@@ -4,7 +4,7 @@ use lib.ListN.{length}
 use Rattle.rules.specs.Results.{decided}
 use Rattle.rules.proofs.TagLaws.{response_sendable}
 use Rattle.rules.proofs.Verdicts.{sound_goes}
-use Rattle.machines.specs.TagWork.{response_of}
+use Rattle.machines.specs.TagWork.{send_of, response_of}
 use Rattle.suite.proofs.Machine+TagState.response.Goals as goal
 
 pub send-requires : goal.send-requires
@@ -20,6 +20,6 @@ returns-in-Refuse c =
     rw (sym c.response.ensures ∙ c.in-Refuse.is) c.refuse.ensures
 
 pub returns-in-Go : goal.returns-in-Go
-unfolding response_of decided
+unfolding response_of send_of decided
 returns-in-Go c =
     rw (sym c.response.ensures ∙ c.in-Go.is) c.send.ensures

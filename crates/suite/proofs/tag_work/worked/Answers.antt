@@ -1,17 +1,17 @@
--- `suite::tag_work::work` meets its contract.
+-- `suite::tag_work::worked` meets its contract.
 use mathlib.Core.Path.{◌≡◌, sym}
 use Prim.Native.Nat.{ℕ}
 use Rattle.faces.specs.declared.Face.{Face}
 use Rattle.states.specs.declared.tag.TagState.{TagState}
 use lib.ListN.{length}
-use Rattle.machines.specs.TagWork.{worked_of}
+use Rattle.machines.specs.TagWork.{receive_of, worked_of}
 use Rattle.rules.specs.TagRules.{command_work}
 use Rattle.states.specs.TagStates.{face_of}
 use Rattle.rules.specs.declared.Work.{Work}
 use Rattle.rules.proofs.TagLaws.{command-room, command_receivable, receives}
 use Rattle.machines.proofs.TagSound.{face-sound}
 use Rattle.states.proofs.Sessions.{width-stored}
-use Rattle.suite.proofs.tag_work.work.Goals as goal
+use Rattle.suite.proofs.tag_work.worked.Goals as goal
 
 -- what is planned by the face that the tag has, said of the tag
 planned : (t : TagState) (f : Face) (kind : ℕ) (w : Work) → f ≡ face_of t → w ≡ command_work f kind → command_work (face_of t) kind ≡ w
@@ -35,5 +35,5 @@ unfolding worked_of
 returns-in-Prove c = rw (planned c.args.t _ _ _ c.face-face.ensures c.in-Prove.ensures) (rw c.prove.ensures at c.say-in-Prove.ensures)
 
 pub returns-in-Receive : goal.returns-in-Receive
-unfolding worked_of
+unfolding worked_of receive_of
 returns-in-Receive c = rw (planned c.args.t _ _ _ c.face-face.ensures c.in-Receive.ensures) c.receive.ensures
