@@ -1,1 +1,0 @@
--- The laws that proofs here cite.
