@@ -18,8 +18,8 @@ use Rattle.rules.specs.declared.Answer.{Answer}
 use Rattle.rules.specs.declared.Answer.TheVariants.{Done, BadState}
 use Rattle.rules.specs.Answers.{number_of}
 use Rattle.rules.specs.Results.{Result, Gives}
-use Rattle.states.specs.declared.tag.TagState.{TagState}
-use Rattle.states.specs.declared.reader.ReaderState.{ReaderState}
+use Rattle.states.specs.TagStates.{TagState}
+use Rattle.states.specs.ReaderStates.{ReaderState}
 use Rattle.suite.specs.declared.Step.{Step}
 use Rattle.suite.specs.Steps.{step_of}
 use Rattle.blocks.specs.Blocks.{stored_in, tag_bytes, spells_tag, reader_bytes, spells_reader}

@@ -7,8 +7,8 @@ use contract.Lifetimes.{Lfts}
 use denote.Ref.{Bor}
 use denote.MutBor.{MutBor}
 use Rattle.rules.specs.Answers.{number_of}
-use Rattle.states.specs.declared.tag.TagState.{TagState}
-use Rattle.states.specs.declared.reader.ReaderState.{ReaderState}
+use Rattle.states.specs.TagStates.{TagState}
+use Rattle.states.specs.ReaderStates.{ReaderState}
 use Rattle.suite.specs.declared.Machine.{Machine}
 use Rattle.suite.specs.declared.Step.{Step}
 use Rattle.suite.proofs as Suite

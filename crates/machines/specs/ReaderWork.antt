@@ -14,9 +14,8 @@ use Rattle.rules.specs.declared.Verdict.{Verdict}
 use Rattle.rules.specs.Answers.{if_sound}
 use Rattle.rules.specs.Calls.{Begin, Message, message_shown}
 use Rattle.rules.specs.ReaderRules.{begin_shown, begin_verdict, reply_shown, reply_verdict, reply_work, send_verdict, receive_verdict}
-use Rattle.states.specs.declared.reader.ReaderState.{ReaderState}
 use Rattle.states.specs.Sessions.{chosen_width, stored_width, key_in, begun_engine, filled_session, next_keystream, with_engine}
-use Rattle.states.specs.ReaderStates.{reader_face_of, reader_secrets_of, reader_sound, reset_reader, closed_reader, begun_reader, filled_reader, opened_reader, with_reader_session}
+use Rattle.states.specs.ReaderStates.{ReaderState, reader_face_of, reader_secrets_of, reader_sound, reset_reader, closed_reader, begun_reader, filled_reader, opened_reader, with_reader_session}
 use Rattle.machines.specs.Messages.{sent, received}
 
 -- ---- begin

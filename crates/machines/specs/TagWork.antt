@@ -15,9 +15,8 @@ use Rattle.rules.specs.Answers.{if_sound}
 use Rattle.rules.specs.Calls.{Command, Message, message_shown}
 use Rattle.faces.specs.TagFaces.{mutually, error_type}
 use Rattle.rules.specs.TagRules.{key_under, shown_of, command_verdict, command_work, response_verdict}
-use Rattle.states.specs.declared.tag.TagState.{TagState}
 use Rattle.states.specs.Sessions.{chosen_width, stored_width, key_in, begun_engine, filled_session, next_keystream, with_engine}
-use Rattle.states.specs.TagStates.{face_of, secrets_of, sound_of, reset_tag, closed_tag, failed_tag, begun_tag, open_tag, with_session}
+use Rattle.states.specs.TagStates.{TagState, face_of, secrets_of, sound_of, reset_tag, closed_tag, failed_tag, begun_tag, open_tag, with_session}
 use Rattle.machines.specs.Messages.{sent, received}
 
 -- ---- step 0

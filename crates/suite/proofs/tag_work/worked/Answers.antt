@@ -2,11 +2,10 @@
 use mathlib.Core.Path.{◌≡◌, sym}
 use Prim.Native.Nat.{ℕ}
 use Rattle.faces.specs.declared.Face.{Face}
-use Rattle.states.specs.declared.tag.TagState.{TagState}
 use lib.ListN.{length}
 use Rattle.machines.specs.TagWork.{receive_of, worked_of}
 use Rattle.rules.specs.TagRules.{command_work}
-use Rattle.states.specs.TagStates.{face_of}
+use Rattle.states.specs.TagStates.{TagState, face_of}
 use Rattle.rules.specs.declared.Work.{Work}
 use Rattle.rules.proofs.TagLaws.{command-room, command_receivable, receives}
 use Rattle.machines.proofs.TagSound.{face-sound}

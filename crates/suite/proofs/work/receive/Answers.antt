@@ -21,6 +21,7 @@ use Rattle.payloads.specs.Payloads.{data_bits}
 use Rattle.rules.specs.declared.Answer.TheVariants.{Done, Mismatch}
 use Rattle.rules.specs.Results.{Gives, refused_by, compared_by}
 use Rattle.states.specs.Sessions.{after_message, data_of, same_mac}
+use Rattle.states.specs.States.{with_session}
 use Rattle.states.proofs.Sessions.{length-data_of, received_bits}
 use Rattle.machines.specs.Messages.{received}
 use Rattle.suite.specs.declared.Step.{Step}
@@ -79,21 +80,21 @@ module _ (v : Width) (secure : Bool) (count : ℕ) (xs before : List ℕ) (s : S
 
 -- what the code has read, before it looks at the verdict
 found : (g : Over) (c : After-field-mac g) → let a = c.args in
-    Read c.width-width.result a.secure a.count a.payload.now a.reply.now c.session.result c.data_bits-n.result c.field-mac.result c.receive-x.result c.receive-x.new.bytes
+    Read c.stored_width-width.result a.secure a.count a.payload.now a.reply.now c.session.result c.data_bits-n.result c.field-mac.result c.receive-x.result c.receive-x.new.bytes
 found g c =
     let a = c.args in
-    read c.width-width.result a.secure a.count a.payload.now a.reply.now c.session.result _ _ _ _ _
+    read c.stored_width-width.result a.secure a.count a.payload.now a.reply.now c.session.result _ _ _ _ _
     (search rules) c.requires.0 c.requires.1.1.0 c.requires.1.1.1
     (rw c.bits-w.ensures at c.data_bits-n.ensures) c.show.ensures c.receive-x.ensures (rw c.bits-w.ensures at c.field-mac.ensures)
 
 pub returns-then-x-mac : goal.returns-then-x-mac
 returns-then-x-mac g c =
     let a = c.args in
-    rw (← c.width-width.ensures, ← c.session.ensures, ← c.closed.ensures)
-    (refused _ a.secure _ a.payload.now _ _ (g.S.State.moved a.state) _ _ _ _ _ (found g (goal.at.returns-then-x-mac g c).After-field-mac) c.if-x-mac.true _ _ c.left.ensures)
+    rw (← c.face.ensures, ← c.width.ensures, ← c.stored_width-width.ensures, ← c.session.ensures, ← c.closed.ensures)
+    (refused _ a.secure _ a.payload.now _ _ (with_session a.state) _ _ _ _ _ (found g (goal.at.returns-then-x-mac g c).After-field-mac) c.if-x-mac.true _ _ c.left.ensures)
 
 pub returns : goal.returns
 returns g c =
     let a = c.args in
-    rw (← c.width-width.ensures, ← c.session.ensures, c.with_session.ensures)
-    (accepted _ a.secure _ a.payload.now _ _ (g.S.State.moved a.state) (g.S.State.closed a.state) _ _ _ _ (found g (goal.at.returns g c).After-field-mac) c.if-x-mac.false)
+    rw (← c.face.ensures, ← c.width.ensures, ← c.stored_width-width.ensures, ← c.session.ensures, c.with_session.ensures)
+    (accepted _ a.secure _ a.payload.now _ _ (with_session a.state) _ _ _ _ _ (found g (goal.at.returns g c).After-field-mac) c.if-x-mac.false)

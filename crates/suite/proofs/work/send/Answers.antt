@@ -20,6 +20,7 @@ use Rattle.payloads.proofs.Layouts.{message-put}
 use Rattle.rules.specs.declared.Answer.TheVariants.{Done}
 use Rattle.rules.specs.Results.{Gives}
 use Rattle.states.specs.Sessions.{body_of, sent_session, sent_bits}
+use Rattle.states.specs.States.{with_session}
 use Rattle.states.proofs.Sessions.{length-body_of, sent_bits_lem}
 use Rattle.machines.specs.Messages.{sent}
 use Rattle.suite.specs.Steps.{step_of}
@@ -49,6 +50,6 @@ sends moved v secure count xs before s next bits worked after octets roomy most 
 pub returns : goal.returns
 returns g c =
     let a = c.args in
-    rw (← c.width-width.ensures, ← c.session.ensures, c.with_session.ensures, c.bits-w.ensures)
-    (sends (g.S.State.moved a.state) _ a.secure a.count a.«data».now a.reply.now _ _ _ _ _ (search rules) c.requires.0 c.requires.1.0 c.requires.1.1
+    rw (← c.face.ensures, ← c.width.ensures, ← c.stored_width-width.ensures, ← c.session.ensures, c.with_session.ensures, c.bits-w.ensures)
+    (sends (with_session a.state) _ a.secure a.count a.«data».now a.reply.now _ _ _ _ _ (search rules) c.requires.0 c.requires.1.0 c.requires.1.1
     c.show.ensures c.send-x.ensures (rw c.bits-w.ensures at c.put.ensures))
