@@ -1,14 +1,7 @@
 -- What the code of an authentication's steps hands back, for what `machines` says they reach. Assumes nothing.
-use Rattle.rules.specs.Results.{Outcome}
-use Rattle.states.specs.declared.tag.TagState.{TagState}
-use Rattle.states.specs.declared.reader.ReaderState.{ReaderState}
-use Rattle.authentication.specs.declared.TagOutcome.{TagOutcome}
-use Rattle.authentication.specs.declared.ReaderOutcome.{ReaderOutcome}
+use Rattle.rules.specs.Results as Results
+use Rattle.authentication.specs.declared.Outcome.{Outcome}
 
--- the struct of the tag's outcome
-abbrev pub tag_outcome : Outcome TagState → TagOutcome
-tag_outcome o = record { next = o.next; answer = o.answer; reply = o.reply }
-
--- the struct of the reader's
-abbrev pub reader_outcome : Outcome ReaderState → ReaderOutcome
-reader_outcome o = record { next = o.next; answer = o.answer; reply = o.reply }
+-- the struct of an outcome, at either machine
+abbrev pub handed : {S : Type 0} → Results.Outcome S → Outcome S
+handed o = record { next = o.next; answer = o.answer; reply = o.reply }

@@ -8,20 +8,11 @@ pub mod tag;
 
 use payloads::Payload;
 use rules::Answer;
-use states::{ReaderState, TagState};
 
-// What a step gives at the tag, its reply not yet written.
+// What a step gives at either machine, its reply not yet written.
 #[derive(Clone, Copy)]
-pub struct TagOutcome {
-    pub next: TagState,
-    pub answer: Answer,
-    pub reply: Payload,
-}
-
-// The same at the reader.
-#[derive(Clone, Copy)]
-pub struct ReaderOutcome {
-    pub next: ReaderState,
+pub struct Outcome<S> {
+    pub next: S,
     pub answer: Answer,
     pub reply: Payload,
 }

@@ -4,20 +4,20 @@ ghost use Rattle.bits.specs.Bytes.{bits_of_bytes};
 ghost use Rattle.rules.specs.ReaderRules.{reply_work};
 ghost use Rattle.states.specs.ReaderStates.{reader_face_of};
 ghost use Rattle.machines.specs.ReaderWork.{begin_options, begun_by, answer_session, matched, compare_of, answer_of, accept_of, confirm_of, answered_by};
-ghost use Rattle.authentication.specs.Outcomes.{reader_outcome};
+ghost use Rattle.authentication.specs.Outcomes.{handed};
 
-use crate::ReaderOutcome;
+use crate::Outcome;
 use grain::Session;
 use payloads::Payload;
 use rules::{Answer, ReplyWork};
 use states::{ReaderState, session};
 
 // The step 0 command, and the reader that has sent it.
-pub fn begin(method: u8, options: u8, keyid: u8, number: u64, key: &[u8]) -> ReaderOutcome
-    ensures { result ≡ reader_outcome (begun_by method options keyid number key.now) }
+pub fn begin(method: u8, options: u8, keyid: u8, number: u64, key: &[u8]) -> Outcome<ReaderState>
+    ensures { result ≡ handed (begun_by method options keyid number key.now) }
 {
     let next = ReaderState::begun(method, options, keyid, number, session::key_in(key));
-    ReaderOutcome {
+    Outcome {
         next,
         answer: Answer::Done,
         reply: Payload::StepZero {
@@ -36,8 +36,8 @@ fn begin_options(method: u8, options: u8) -> u8
 }
 
 // What a response that passed all checks does, by the state and the response's first bit.
-pub fn answer(r: ReaderState, status: u8, payload: &[u8]) -> ReaderOutcome
-    ensures { result ≡ reader_outcome (answered_by (reply_work (reader_face_of r) status) r (bits_of_bytes payload.now)) }
+pub fn answer(r: ReaderState, status: u8, payload: &[u8]) -> Outcome<ReaderState>
+    ensures { result ≡ handed (answered_by (reply_work (reader_face_of r) status) r (bits_of_bytes payload.now)) }
 {
     let face = r.face();
     match rules::reader::reply_work(face, status) {
@@ -64,25 +64,25 @@ fn answer_session(r: ReaderState, payload: &[u8]) -> Session
 }
 
 // The reader that a comparison of 64 keystream bits leaves: `next` where they are the same.
-fn compared(same: bool, next: ReaderState) -> ReaderOutcome
-    ensures { result ≡ reader_outcome (matched same next) }
+fn compared(same: bool, next: ReaderState) -> Outcome<ReaderState>
+    ensures { result ≡ handed (matched same next) }
 {
     if same {
-        return ReaderOutcome {
+        return Outcome {
             next,
             answer: Answer::Done,
             reply: Payload::Nothing,
         };
     }
-    ReaderOutcome {
+    Outcome {
         next: ReaderState::closed(),
         answer: Answer::Mismatch,
         reply: Payload::Nothing,
     }
 }
 
-fn compare(r: ReaderState, payload: &[u8]) -> ReaderOutcome
-    ensures { result ≡ reader_outcome (compare_of r (bits_of_bytes payload.now)) }
+fn compare(r: ReaderState, payload: &[u8]) -> Outcome<ReaderState>
+    ensures { result ≡ handed (compare_of r (bits_of_bytes payload.now)) }
 {
     let x = answer_session(r, payload);
     let e = x.engine;
@@ -94,8 +94,8 @@ fn compare(r: ReaderState, payload: &[u8]) -> ReaderOutcome
 }
 
 // The step 1 command.
-fn prove(r: ReaderState, payload: &[u8]) -> ReaderOutcome
-    ensures { result ≡ reader_outcome (answer_of r (bits_of_bytes payload.now)) }
+fn prove(r: ReaderState, payload: &[u8]) -> Outcome<ReaderState>
+    ensures { result ≡ handed (answer_of r (bits_of_bytes payload.now)) }
 {
     let face = r.face();
     let x = answer_session(r, payload);
@@ -103,7 +103,7 @@ fn prove(r: ReaderState, payload: &[u8]) -> ReaderOutcome
     let ks = e.keystream();
     let engine = ks.engine;
     let next = r.filled(false, session::with_engine(x, engine));
-    ReaderOutcome {
+    Outcome {
         next,
         answer: Answer::Done,
         reply: Payload::StepOne {
@@ -115,15 +115,15 @@ fn prove(r: ReaderState, payload: &[u8]) -> ReaderOutcome
     }
 }
 
-fn accept(r: ReaderState) -> ReaderOutcome
-    ensures { result ≡ reader_outcome (accept_of r) }
+fn accept(r: ReaderState) -> Outcome<ReaderState>
+    ensures { result ≡ handed (accept_of r) }
 {
     let next = r.opened(r.session());
     compared(true, next)
 }
 
-fn confirm(r: ReaderState, payload: &[u8]) -> ReaderOutcome
-    ensures { result ≡ reader_outcome (confirm_of r (bits_of_bytes payload.now)) }
+fn confirm(r: ReaderState, payload: &[u8]) -> Outcome<ReaderState>
+    ensures { result ≡ handed (confirm_of r (bits_of_bytes payload.now)) }
 {
     let x = r.session();
     let e = x.engine;

@@ -1,9 +1,9 @@
 // The tag's two steps.
 ghost use Rattle.std.specs.Prelude.{◌≡◌};
 ghost use Rattle.machines.specs.TagWork.{ta_started, challenged, started_by, start_of, failed, interrogator_proved, mutually_proved, proved_by, prove_of};
-ghost use Rattle.authentication.specs.Outcomes.{tag_outcome};
+ghost use Rattle.authentication.specs.Outcomes.{handed};
 
-use crate::TagOutcome;
+use crate::Outcome;
 use grain::{Engine, Method, Session};
 use payloads::Payload;
 use rules::{Answer, Shown};
@@ -12,8 +12,8 @@ use states::{TagState, session};
 // ---- step 0
 
 // The step 0 command's work, by what the call shows, the key of its KeyID, and its payload.
-pub fn start(p: Shown, key: &[u8], payload: &[u8]) -> TagOutcome
-    ensures { result ≡ tag_outcome (start_of p key.now payload.now) }
+pub fn start(p: Shown, key: &[u8], payload: &[u8]) -> Outcome<TagState>
+    ensures { result ≡ handed (start_of p key.now payload.now) }
 {
     let reader = bits::field(payload, 16, 48);
     let fields = p.fields;
@@ -29,8 +29,15 @@ pub fn start(p: Shown, key: &[u8], payload: &[u8]) -> TagOutcome
     )
 }
 
-fn started(method: u8, keyid: u8, options: u8, features: u8, number: u64, e: Engine) -> TagOutcome
-    ensures { result ≡ tag_outcome (started_by method keyid options features number e) }
+fn started(
+    method: u8,
+    keyid: u8,
+    options: u8,
+    features: u8,
+    number: u64,
+    e: Engine,
+) -> Outcome<TagState>
+    ensures { result ≡ handed (started_by method keyid options features number e) }
 {
     if method == 0 {
         let x = e.fill(session::chosen_width(options));
@@ -39,14 +46,14 @@ fn started(method: u8, keyid: u8, options: u8, features: u8, number: u64, e: Eng
     challenge(method != 1, keyid, features, number, e)
 }
 
-fn ta_started(keyid: u8, options: u8, features: u8, number: u64, x: Session) -> TagOutcome
-    ensures { result ≡ tag_outcome (ta_started keyid options features number x) }
+fn ta_started(keyid: u8, options: u8, features: u8, number: u64, x: Session) -> Outcome<TagState>
+    ensures { result ≡ handed (ta_started keyid options features number x) }
 {
     let e = x.engine;
     let ks = e.keystream();
     let engine = ks.engine;
     let next = TagState::opened(Method::Ta, keyid, options, session::with_engine(x, engine));
-    TagOutcome {
+    Outcome {
         next,
         answer: Answer::Done,
         reply: Payload::TagProof {
@@ -57,11 +64,11 @@ fn ta_started(keyid: u8, options: u8, features: u8, number: u64, x: Session) -> 
     }
 }
 
-fn challenge(both: bool, keyid: u8, features: u8, number: u64, e: Engine) -> TagOutcome
-    ensures { result ≡ tag_outcome (challenged both keyid features number e) }
+fn challenge(both: bool, keyid: u8, features: u8, number: u64, e: Engine) -> Outcome<TagState>
+    ensures { result ≡ handed (challenged both keyid features number e) }
 {
     let next = TagState::begun(both, keyid, e);
-    TagOutcome {
+    Outcome {
         next,
         answer: Answer::Done,
         reply: Payload::TagChallenge { features, number },
@@ -71,8 +78,8 @@ fn challenge(both: bool, keyid: u8, features: u8, number: u64, e: Engine) -> Tag
 // ---- step 1
 
 // The step 1 command's work: the reader's 64 keystream bits are compared.
-pub fn prove(t: TagState, p: Shown, payload: &[u8]) -> TagOutcome
-    ensures { result ≡ tag_outcome (prove_of t p payload.now) }
+pub fn prove(t: TagState, p: Shown, payload: &[u8]) -> Outcome<TagState>
+    ensures { result ≡ handed (prove_of t p payload.now) }
 {
     let given = bits::field(payload, 16, 64);
     let face = t.face();
@@ -87,8 +94,15 @@ pub fn prove(t: TagState, p: Shown, payload: &[u8]) -> TagOutcome
     proved(both, ks.word == given, face.keyid, options, engine, x)
 }
 
-fn proved(both: bool, same: bool, keyid: u8, options: u8, e: Engine, x: Session) -> TagOutcome
-    ensures { result ≡ tag_outcome (proved_by both same keyid options e x) }
+fn proved(
+    both: bool,
+    same: bool,
+    keyid: u8,
+    options: u8,
+    e: Engine,
+    x: Session,
+) -> Outcome<TagState>
+    ensures { result ≡ handed (proved_by both same keyid options e x) }
 {
     if same {
         if both {
@@ -99,35 +113,35 @@ fn proved(both: bool, same: bool, keyid: u8, options: u8, e: Engine, x: Session)
     fail(both)
 }
 
-fn mutually_proved(keyid: u8, options: u8, e: Engine, x: Session) -> TagOutcome
-    ensures { result ≡ tag_outcome (mutually_proved keyid options e x) }
+fn mutually_proved(keyid: u8, options: u8, e: Engine, x: Session) -> Outcome<TagState>
+    ensures { result ≡ handed (mutually_proved keyid options e x) }
 {
     let ks = e.keystream();
     let engine = ks.engine;
     let next = TagState::opened(Method::Ma, keyid, options, session::with_engine(x, engine));
-    TagOutcome {
+    Outcome {
         next,
         answer: Answer::Done,
         reply: Payload::MutualProof(ks.word),
     }
 }
 
-fn interrogator_proved(keyid: u8, options: u8, e: Engine, x: Session) -> TagOutcome
-    ensures { result ≡ tag_outcome (interrogator_proved keyid options e x) }
+fn interrogator_proved(keyid: u8, options: u8, e: Engine, x: Session) -> Outcome<TagState>
+    ensures { result ≡ handed (interrogator_proved keyid options e x) }
 {
     let next = TagState::opened(Method::Ia, keyid, options, session::with_engine(x, e));
-    TagOutcome {
+    Outcome {
         next,
         answer: Answer::Done,
         reply: Payload::Status(0),
     }
 }
 
-fn fail(both: bool) -> TagOutcome
-    ensures { result ≡ tag_outcome (failed both) }
+fn fail(both: bool) -> Outcome<TagState>
+    ensures { result ≡ handed (failed both) }
 {
     let next = TagState::failed(both);
-    TagOutcome {
+    Outcome {
         next,
         answer: Answer::Mismatch,
         reply: Payload::Status(1),

@@ -18,10 +18,8 @@ use Rattle.faces.specs.declared.Stage.TheVariants.{Idle, Step0Sent, Step1Sent, O
 use Rattle.faces.specs.declared.ReaderFace.{ReaderFace}
 use Rattle.faces.specs.TagFaces.{name_number}
 use Rattle.faces.specs.ReaderFaces.{stage_number}
-use Rattle.states.specs.declared.tag.TagState.{TagState}
-use Rattle.states.specs.declared.reader.ReaderState.{ReaderState}
-use Rattle.states.specs.TagStates.{face_of, secrets_of}
-use Rattle.states.specs.ReaderStates.{reader_face_of, reader_secrets_of}
+use Rattle.states.specs.TagStates.{TagState, face_of, secrets_of}
+use Rattle.states.specs.ReaderStates.{ReaderState, reader_face_of, reader_secrets_of}
 use Rattle.states.proofs.TagStates.{parts_of_lem}
 use Rattle.states.proofs.ReaderStates.{reader_parts_of}
 use Rattle.blocks.specs.Blocks.{number_at, number_bytes, Word, Words, session_in, session_bytes, name_of, spells_tag, tag_face_in, tag_in, tag_head, tag_block, stage_of, spells_reader, reader_face_in, reader_in, reader_head, reader_block}

@@ -12,10 +12,8 @@ use Rattle.faces.specs.declared.Stage.TheVariants.{Idle, Step0Sent, Step1Sent, O
 use Rattle.faces.specs.declared.ReaderFace.{ReaderFace}
 use Rattle.faces.specs.TagFaces.{name_number}
 use Rattle.faces.specs.ReaderFaces.{stage_number}
-use Rattle.states.specs.declared.tag.TagState.{TagState}
-use Rattle.states.specs.declared.reader.ReaderState.{ReaderState}
-use Rattle.states.specs.TagStates.{face_of, secrets_of, tag_of}
-use Rattle.states.specs.ReaderStates.{reader_face_of, reader_secrets_of, reader_of}
+use Rattle.states.specs.TagStates.{TagState, face_of, secrets_of, tag_of}
+use Rattle.states.specs.ReaderStates.{ReaderState, reader_face_of, reader_secrets_of, reader_of}
 
 -- ---- parts
 

@@ -18,11 +18,10 @@ use Rattle.rules.specs.declared.Answer.{Answer}
 use Rattle.rules.specs.declared.Answer.TheVariants.{Done, BadState}
 use Rattle.rules.specs.Answers.{number_of}
 use Rattle.rules.specs.Results.{Result, Gives}
-use Rattle.states.specs.declared.tag.TagState.{TagState}
-use Rattle.states.specs.declared.reader.ReaderState.{ReaderState}
+use Rattle.states.specs.TagStates.{TagState}
+use Rattle.states.specs.ReaderStates.{ReaderState}
 use Rattle.suite.specs.declared.Step.{Step}
-use Rattle.suite.specs.declared.ReaderStep.{ReaderStep}
-use Rattle.suite.specs.Steps.{tag_step, reader_step}
+use Rattle.suite.specs.Steps.{step_of}
 use Rattle.blocks.specs.Blocks.{stored_in, tag_bytes, spells_tag, reader_bytes, spells_reader}
 use Rattle.capi.specs.Calls.{Leaves, kept_with, Blocks, gave, called, reset_called, tag_blocks, reader_blocks, key_given}
 
@@ -96,22 +95,22 @@ pub reader-size : (block : List ℕ) → spells_reader block ≡ true → length
 unfolding spells_reader
 reader-size block e = eqb-true _ _ (and_left _ _ (and_left _ _ (and_left _ _ (and_left _ _ e))))
 
-abbrev pub tag_steps : Steps TagState Step
+abbrev pub tag_steps : Steps TagState (Step TagState)
 tag_steps = record {
   blocks = tag_blocks;
   sized = tag-size;
-  step_of = tag_step;
+  step_of = step_of;
   answer = λ s. s.answer;
   count = λ s. s.bits;
   next = λ s. s.next.state;
   parts = λ x. (refl, (refl, refl));
 }
 
-abbrev pub reader_steps : Steps ReaderState ReaderStep
+abbrev pub reader_steps : Steps ReaderState (Step ReaderState)
 reader_steps = record {
   blocks = reader_blocks;
   sized = reader-size;
-  step_of = reader_step;
+  step_of = step_of;
   answer = λ s. s.answer;
   count = λ s. s.bits;
   next = λ s. s.next.state;

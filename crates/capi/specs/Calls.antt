@@ -11,9 +11,8 @@ use Rattle.rules.specs.declared.Answer.TheVariants.{Done, BadBook, SmallBuffer, 
 use Rattle.rules.specs.Answers.{number_of}
 use Rattle.rules.specs.Calls.{Command, Message, Begin, small_room}
 use Rattle.rules.specs.Results.{Result}
-use Rattle.states.specs.declared.tag.TagState.{TagState}
-use Rattle.states.specs.declared.reader.ReaderState.{ReaderState}
-use Rattle.states.specs.TagStates.{closed_tag}
+use Rattle.states.specs.ReaderStates.{ReaderState}
+use Rattle.states.specs.TagStates.{TagState, closed_tag}
 use Rattle.machines.specs.TagWork.{reset_of, command_of, response_of, error_type_of}
 use Rattle.machines.specs.ReaderWork.{reader_reset, begin_of, replied_of, sending_of, receiving_of}
 use Rattle.blocks.specs.Blocks.{tag_bytes, spells_tag, tag_in, tag_block, reader_bytes, spells_reader, reader_in, reader_block}

@@ -11,7 +11,8 @@ ghost use Rattle.blocks.specs.Blocks.{stored_in, tag_bytes, tag_block, reader_by
 ghost use Rattle.capi.specs.Calls.{Leaves, tag_reset_called, command_called, response_called, close_answer, closed_block, error_type_called, reader_reset_called, begin_called, replied_called, send_called, receive_called, find_called, scanned_numbers, written_numbers};
 
 use rules::Answer;
-use suite::{Reader, ReaderStep, Step, Tag};
+use states::{ReaderState, TagState};
+use suite::{Reader, Step, Tag};
 
 // A key's bits.
 const KEY_BITS: usize = 8 * book::KEY_BYTES;
@@ -291,7 +292,7 @@ fn refused(answer: Answer, reply: &mut [u8], bits: &mut usize) -> u8
     u8::from(answer)
 }
 
-fn stepped(state: &mut [u8], step: Step, bits: &mut usize) -> u8
+fn stepped(state: &mut [u8], step: Step<TagState>, bits: &mut usize) -> u8
     ensures value { result ≡ number_of step.answer }
     ensures bits_after { bits.new ≡ step.bits }
     ensures state_after { state.new ≡ stored_in tag_bytes (tag_block step.next.state) state.old }
@@ -303,7 +304,7 @@ fn stepped(state: &mut [u8], step: Step, bits: &mut usize) -> u8
     u8::from(answer)
 }
 
-fn reader_stepped(state: &mut [u8], step: ReaderStep, bits: &mut usize) -> u8
+fn reader_stepped(state: &mut [u8], step: Step<ReaderState>, bits: &mut usize) -> u8
     ensures value { result ≡ number_of step.answer }
     ensures bits_after { bits.new ≡ step.bits }
     ensures state_after { state.new ≡ stored_in reader_bytes (reader_block step.next.state) state.old }

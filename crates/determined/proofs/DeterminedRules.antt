@@ -19,11 +19,14 @@ name-numbered κs a x y p q = part p q refl
 pub row_of_lem : Determines FacesContracts.tag.row_of.ended Faces.tag.row_of.Reads.Post
 row_of_lem κs a x y p q = part p q refl
 
-pub face-fits : Determines FacesContracts.tag.face_fits.ended Faces.tag.face_fits.Reads.Post
+pub face-fits : Determines FacesContracts.tag.FacePublicParts.fits.ended Faces.tag.FacePublicParts.fits.Reads.Post
 face-fits κs a x y p q = part p q refl
 
-pub face-bare : Determines FacesContracts.tag.bare.ended Faces.tag.bare.Reads.Post
+pub face-bare : Determines FacesContracts.tag.FacePublicParts.bare.ended Faces.tag.FacePublicParts.bare.Reads.Post
 face-bare κs a x y p q = part p q refl
+
+pub face-width : Determines FacesContracts.tag.FacePublicParts.width.ended Faces.tag.FacePublicParts.width.Reads.Post
+face-width κs a x y p q = part p q refl
 
 pub face-mutually : Determines FacesContracts.tag.mutually.ended Faces.tag.mutually.Reads.Post
 face-mutually κs a x y p q = part p q refl
@@ -40,11 +43,14 @@ stage-numbered κs a x y p q = part p q refl
 pub stage-row : Determines FacesContracts.reader.stage_row.ended Faces.reader.stage_row.Reads.Post
 stage-row κs a x y p q = part p q refl
 
-pub reader-fits : Determines FacesContracts.reader.face_fits.ended Faces.reader.face_fits.Reads.Post
+pub reader-fits : Determines FacesContracts.reader.ReaderFacePublicParts.fits.ended Faces.reader.ReaderFacePublicParts.fits.Reads.Post
 reader-fits κs a x y p q = part p q refl
 
-pub reader-bare : Determines FacesContracts.reader.bare.ended Faces.reader.bare.Reads.Post
+pub reader-bare : Determines FacesContracts.reader.ReaderFacePublicParts.bare.ended Faces.reader.ReaderFacePublicParts.bare.Reads.Post
 reader-bare κs a x y p q = part p q refl
+
+pub reader-width : Determines FacesContracts.reader.ReaderFacePublicParts.width.ended Faces.reader.ReaderFacePublicParts.width.Reads.Post
+reader-width κs a x y p q = part p q refl
 
 -- ---- rules
 

@@ -5,9 +5,32 @@
 pub mod reader;
 pub mod tag;
 
-ghost use Rattle.std.specs.Prelude.{◌≡◌};
+ghost use Rattle.std.specs.Prelude.{◌≡◌, Bool, ℕ};
 ghost use Rattle.faces.specs.TagFaces.{name_number, name_numbered};
 ghost use Rattle.faces.specs.ReaderFaces.{stage_number, stage_numbered};
+
+// ---- both
+
+// The public parts of a stored state: all that a verdict may look at.
+pub trait PublicParts: Copy {
+    ghost fits: { Self → Bool };
+
+    ghost bare: { Self → Bool };
+
+    ghost width: { Self → ℕ };
+
+    // Whether they are those of some state; the secret parts are not asked here.
+    fn fits(self) -> bool
+        ensures { result ≡ fits self };
+
+    // Whether a state may hold nothing beside what names it.
+    fn bare(self) -> bool
+        ensures { result ≡ bare self };
+
+    // The bits that accumulator and register have: 0 where they are not filled.
+    fn width(self) -> u8
+        ensures { result ≡ width self };
+}
 
 // ---- the tag
 

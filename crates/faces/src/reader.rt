@@ -2,7 +2,7 @@
 ghost use Rattle.std.specs.Prelude.{◌≡◌, true, false};
 ghost use Rattle.faces.specs.ReaderFaces.{stage_row, reader_width, reader_bare, reader_fits};
 
-use crate::{ReaderFace, Stage, StageRow};
+use crate::{PublicParts, ReaderFace, Stage, StageRow};
 use payloads::NUMBER_LIMIT;
 
 // The table of stages.
@@ -31,29 +31,37 @@ fn row(idle: bool, asked: bool, proving: bool, opened: bool) -> StageRow
 
 // ---- the stored state
 
-// Whether the public parts are those of some state; the secret parts are not asked here.
-#[tactic(auto, unfolding(crate::specs::ReaderFaces::reader_fits))]
-pub fn face_fits(f: ReaderFace) -> bool
-    ensures { result ≡ reader_fits f }
-{
-    let row = stage_row(f.stage);
-    let want = width_wanted(row, f.options);
-    let bare = bare(f);
-    let zeros = (f.method == 0) & (f.options == 0) & (f.keyid == 0) & (f.number == 0);
-    (f.options < 4)
-        & (f.width == want)
-        & (f.method < 3)
-        & (f.number < NUMBER_LIMIT)
-        & !(row.proving & (f.method == 0))
-        & (!bare | zeros)
-}
+impl PublicParts for ReaderFace {
+    ghost fits = { reader_fits };
 
-// Whether a state may hold nothing but zeros.
-pub fn bare(f: ReaderFace) -> bool
-    ensures { result ≡ reader_bare f }
-{
-    let row = stage_row(f.stage);
-    !(row.asked | row.proving | row.opened)
+    ghost bare = { reader_bare };
+
+    ghost width = { λ f. f.width };
+
+    fn fits(self) -> bool {
+        let row = stage_row(self.stage);
+        let want = width_wanted(row, self.options);
+        let zeros = (self.method == 0)
+            & (self.options == 0)
+            & (self.keyid == 0)
+            & (self.number == 0);
+        (self.options < 4)
+            & (self.width == want)
+            & (self.method < 3)
+            & (self.number < NUMBER_LIMIT)
+            & !(row.proving & (self.method == 0))
+            & (!self.bare() | zeros)
+    }
+
+    // Nothing but zeros.
+    fn bare(self) -> bool {
+        let row = stage_row(self.stage);
+        !(row.asked | row.proving | row.opened)
+    }
+
+    fn width(self) -> u8 {
+        self.width
+    }
 }
 
 fn width_wanted(row: StageRow, options: u8) -> u8

@@ -2,7 +2,7 @@
 ghost use Rattle.std.specs.Prelude.{◌≡◌, true, false, not, ◌&&◌};
 ghost use Rattle.faces.specs.TagFaces.{row_of, mutually, flags_fit, width_wanted, bare, face_fits, error_type};
 
-use crate::{Face, Name, Row};
+use crate::{Face, Name, PublicParts, Row};
 
 // The table of states.
 pub fn row_of(name: Name) -> Row
@@ -60,25 +60,31 @@ fn opened(ta: bool, ia: bool) -> Row
 
 // ---- the stored state
 
-// Whether the public parts are those of some state; the secret parts are not asked here.
-#[tactic(auto, unfolding(crate::specs::TagFaces::face_fits))]
-pub fn face_fits(f: Face) -> bool
-    ensures { result ≡ face_fits f }
-{
-    let row = row_of(f.name);
-    let flags = flags_fit(row, f);
-    let want = width_wanted(row, f.error, f.options);
-    let bare = bare(f);
-    let options = (f.options < 4) & (row.filled | (f.options == 0));
-    flags & (f.width == want) & options & (!bare | ((f.keyid == 0) & (f.options == 0)))
-}
+impl PublicParts for Face {
+    ghost fits = { face_fits };
 
-// Whether a state may hold nothing beside name and flags.
-pub fn bare(f: Face) -> bool
-    ensures { result ≡ bare f }
-{
-    let row = row_of(f.name);
-    (row.step == 0) | f.error
+    ghost bare = { bare };
+
+    ghost width = { λ f. f.width };
+
+    fn fits(self) -> bool {
+        let row = row_of(self.name);
+        let flags = flags_fit(row, self);
+        let want = width_wanted(row, self.error, self.options);
+        let options = (self.options < 4) & (row.filled | (self.options == 0));
+        let zeros = (self.keyid == 0) & (self.options == 0);
+        flags & (self.width == want) & options & (!self.bare() | zeros)
+    }
+
+    // Nothing beside name and flags.
+    fn bare(self) -> bool {
+        let row = row_of(self.name);
+        (row.step == 0) | self.error
+    }
+
+    fn width(self) -> u8 {
+        self.width
+    }
 }
 
 fn flags_fit(row: Row, f: Face) -> bool

@@ -2,7 +2,7 @@
 use Rattle.std.specs.Prelude.{Bool, cond, ◌||◌, ℕ, eqb}
 use Rattle.rules.specs.Results.{Result}
 use Rattle.rules.specs.Calls.{Command, Message}
-use Rattle.states.specs.declared.tag.TagState.{TagState}
+use Rattle.states.specs.TagStates.{TagState}
 use Rattle.machines.specs.TagWork.{command_of, response_of, reset_of}
 
 -- "4 comm response wanted, 5 secure response wanted"

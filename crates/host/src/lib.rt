@@ -4,9 +4,10 @@
 
 ghost use Rattle.std.specs.Prelude.{length};
 ghost use Rattle.rules.specs.Results.{Gives};
-ghost use Rattle.suite.specs.Steps.{tag_step};
+ghost use Rattle.suite.specs.Steps.{step_of};
 ghost use Rattle.host.specs.Kinds.{ran_of};
 
+use states::TagState;
 use suite::{Step, Tag};
 
 // Runs a frame of this kind and the first `count` bits of `payload`; features, key book and number are the tag's, and only a
@@ -22,8 +23,8 @@ pub fn run(
     book: &[u8],
     number: u64,
     reply: &mut [u8],
-) -> Step
-    ensures { Gives tag_step
+) -> Step<TagState>
+    ensures { Gives step_of
         (ran_of tag.state (record { kind = kind; payload = payload.now; count = count; features = features; book = book.now; number = number }) (length reply.old))
         result reply.old reply.new }
 {

@@ -24,9 +24,8 @@ use Rattle.rules.proofs.Verdicts.{kept_decides}
 use Rattle.rules.proofs.ReaderLaws.{talking}
 use Rattle.rules.proofs.Soundness as Soundness
 use Rattle.rules.proofs.Soundness.{compared_good, decided_good}
-use Rattle.states.specs.declared.reader.ReaderState.{ReaderState}
 use Rattle.states.specs.Sessions.{chosen_width, stored_width, begun_engine, with_engine, after_message, sent_session, words_fit, session_fits}
-use Rattle.states.specs.ReaderStates.{reader_face_of, reader_secrets_of, reader_of, reader_sound, begun_reader_face, moved_face, reset_reader, closed_reader, begun_reader, filled_reader, opened_reader, with_reader_session}
+use Rattle.states.specs.ReaderStates.{ReaderState, reader_face_of, reader_secrets_of, reader_of, reader_sound, begun_reader_face, moved_face, reset_reader, closed_reader, begun_reader, filled_reader, opened_reader, with_reader_session}
 use Rattle.machines.specs.ReaderWork.{begin_of, answer_session, matched, compare_of, answer_of, confirm_of, answered_by, replied_of, sent_by, sending_of, received_by, receiving_of}
 use Rattle.states.proofs.Sessions.{width_chosen, width-stored, filled-fits, message-fits}
 use Rattle.states.proofs.ReaderStates.{reader-face-of, reader_secrets_of_lem}

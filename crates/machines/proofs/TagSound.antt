@@ -28,9 +28,8 @@ use Rattle.faces.proofs.Fits.{flags_fit_lem, open-width, responds-filled}
 use Rattle.rules.proofs.TagLaws.{filled_row}
 use Rattle.rules.proofs.Soundness as Soundness
 use Rattle.rules.proofs.Soundness.{compared_good, decided_good}
-use Rattle.states.specs.declared.tag.TagState.{TagState}
 use Rattle.states.specs.Sessions.{chosen_width, stored_width, filled_session, after_message, sent_session, words_fit, session_fits}
-use Rattle.states.specs.TagStates.{face_of, secrets_of, tag_of, sound_of, closed_face, open_by, reset_tag, closed_tag, failed_tag, begun_tag, open_tag, with_session}
+use Rattle.states.specs.TagStates.{TagState, face_of, secrets_of, tag_of, sound_of, closed_face, open_by, reset_tag, closed_tag, failed_tag, begun_tag, open_tag, with_session}
 use Rattle.machines.specs.TagWork.{started_by, start_of, proved_by, prove_of, receive_of, send_of, worked_of, carried_of, command_of, response_of}
 use Rattle.states.proofs.Sessions.{width_chosen, width-stored, filled-fits, message-fits}
 use Rattle.states.proofs.TagStates.{face-of, secrets_of_lem}

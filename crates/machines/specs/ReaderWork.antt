@@ -3,20 +3,19 @@ use Rattle.std.specs.Prelude.{Bool, true, false, cond, List, [], ℕ, eqb, take}
 use Rattle.bits.specs.Bytes.{bits_of_bytes}
 use Rattle.book.specs.Book as Book
 use Rattle.grain.specs.declared.Session.{Session}
-use Rattle.grain.specs.Stored.{width_of}
 use Rattle.payloads.specs.declared.Payload.TheVariants.{StepZero, StepOne, Nothing}
-use Rattle.payloads.specs.Payloads.{tag_number_in, tag_keystream_in, status_in, mutual_keystream_in, data_bits, zeros_of}
+use Rattle.payloads.specs.Payloads.{tag_number_in, tag_keystream_in, status_in, mutual_keystream_in, zeros_of}
 use Rattle.rules.specs.declared.ReplyWork.{ReplyWork}
 use Rattle.rules.specs.declared.ReplyWork.TheVariants.{Compare, Answer, Fail, Accept, Confirm}
-use Rattle.rules.specs.Results.{Result, Outcome, done_by, compared_by, said, reached, differed, decided}
+use Rattle.rules.specs.Results.{Result, Outcome, done_by, said, reached, differed, decided}
 use Rattle.rules.specs.declared.ShownBegin.{ShownBegin}
 use Rattle.rules.specs.declared.ShownReply.{ShownReply}
 use Rattle.rules.specs.Answers.{Verdict, if_sound}
 use Rattle.rules.specs.Calls.{Begin, Message, message_shown}
 use Rattle.rules.specs.ReaderRules.{begin_shown, begin_verdict, reply_shown, reply_verdict, reply_work, send_verdict, receive_verdict}
-use Rattle.states.specs.declared.reader.ReaderState.{ReaderState}
-use Rattle.states.specs.Sessions.{chosen_width, stored_width, key_in, begun_engine, filled_session, next_keystream, with_engine, after_message, data_of, sent_session, sent_bits, same_mac}
-use Rattle.states.specs.ReaderStates.{reader_face_of, reader_secrets_of, reader_sound, reset_reader, closed_reader, begun_reader, filled_reader, opened_reader, with_reader_session}
+use Rattle.states.specs.Sessions.{chosen_width, stored_width, key_in, begun_engine, filled_session, next_keystream, with_engine}
+use Rattle.states.specs.ReaderStates.{ReaderState, reader_face_of, reader_secrets_of, reader_sound, reset_reader, closed_reader, begun_reader, filled_reader, opened_reader, with_reader_session}
+use Rattle.machines.specs.Messages.{sent, received}
 
 -- ---- begin
 
@@ -94,12 +93,9 @@ replied_of r payload count room =
 
 -- ---- messages; kind 2 is secure
 
--- "0 to 2,048 data bits, eight zero bits, MAC of w bits"
 unfoldable pub sent_by : ReaderState → Message → Result ReaderState
 sent_by r m =
-    let v = stored_width (reader_face_of r).width in
-    let ms = take m.count (bits_of_bytes m.payload) in
-    done_by (with_reader_session r (sent_session v (eqb m.kind 2) ms (reader_secrets_of r))) (sent_bits v (eqb m.kind 2) ms (reader_secrets_of r))
+    sent (with_reader_session r) (stored_width (reader_face_of r).width) (eqb m.kind 2) (take m.count (bits_of_bytes m.payload)) (reader_secrets_of r)
 
 -- what a message to send is refused for
 abbrev pub send_judged : ReaderState → Message → ℕ → Verdict
@@ -109,14 +105,9 @@ send_judged r m room = if_sound (reader_sound r) (send_verdict (reader_face_of r
 unfoldable pub sending_of : ReaderState → Message → ℕ → Result ReaderState
 sending_of r m room = decided (send_judged r m room) r closed_reader (sent_by r m)
 
--- a message "that is accepted, at either end, has its plain data bits as reply"; "the MAC is over the encrypted bits": those that came
 unfoldable pub received_by : ReaderState → Message → Result ReaderState
 received_by r m =
-    let l = bits_of_bytes m.payload in
-    let v = stored_width (reader_face_of r).width in
-    let cs = take (data_bits (width_of v) m.count) l in
-    compared_by (same_mac v l m.count (reader_secrets_of r)) (with_reader_session r (after_message v cs (reader_secrets_of r)))
-    (data_of v (eqb m.kind 2) cs (reader_secrets_of r)) closed_reader
+    received (with_reader_session r) closed_reader (stored_width (reader_face_of r).width) (eqb m.kind 2) m.count (bits_of_bytes m.payload) (reader_secrets_of r)
 
 -- what a message that came is refused for: its zero bits are shown, too
 abbrev pub receive_judged : ReaderState → Message → ℕ → Verdict

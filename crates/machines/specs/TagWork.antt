@@ -4,20 +4,19 @@ use Rattle.bits.specs.Bytes.{bits_of_bytes}
 use Rattle.grain.specs.declared.Engine.{Engine}
 use Rattle.grain.specs.declared.Session.{Session}
 use Rattle.grain.specs.declared.Method.TheVariants.{Ta, Ia, Ma}
-use Rattle.grain.specs.Stored.{width_of}
 use Rattle.payloads.specs.declared.Payload.TheVariants.{TagProof, TagChallenge, Status, MutualProof}
-use Rattle.payloads.specs.Payloads.{key_id_in, reader_number_in, reader_keystream_in, data_bits}
+use Rattle.payloads.specs.Payloads.{key_id_in, reader_number_in, reader_keystream_in}
 use Rattle.rules.specs.declared.Shown.{Shown}
 use Rattle.rules.specs.declared.Work.{Work}
 use Rattle.rules.specs.declared.Work.TheVariants.{Start, Prove, Receive}
-use Rattle.rules.specs.Results.{Result, Outcome, done_by, compared_by, said, reached, differed, decided}
+use Rattle.rules.specs.Results.{Result, Outcome, done_by, said, reached, differed, decided}
 use Rattle.rules.specs.Answers.{Verdict, if_sound}
 use Rattle.rules.specs.Calls.{Command, Message, message_shown}
 use Rattle.faces.specs.TagFaces.{mutually, error_type}
 use Rattle.rules.specs.TagRules.{key_under, shown_of, command_verdict, command_work, response_verdict}
-use Rattle.states.specs.declared.tag.TagState.{TagState}
-use Rattle.states.specs.Sessions.{chosen_width, stored_width, key_in, begun_engine, filled_session, next_keystream, with_engine, after_message, data_of, sent_session, sent_bits, same_mac}
-use Rattle.states.specs.TagStates.{face_of, secrets_of, sound_of, reset_tag, closed_tag, failed_tag, begun_tag, open_tag, with_session}
+use Rattle.states.specs.Sessions.{chosen_width, stored_width, key_in, begun_engine, filled_session, next_keystream, with_engine}
+use Rattle.states.specs.TagStates.{TagState, face_of, secrets_of, sound_of, reset_tag, closed_tag, failed_tag, begun_tag, open_tag, with_session}
+use Rattle.machines.specs.Messages.{sent, received}
 
 -- ---- step 0
 
@@ -70,20 +69,15 @@ prove_of t p payload =
 
 -- ---- messages
 
--- a message "that is accepted, at either end, has its plain data bits as reply"; kind 2 is secure
+-- kind 2 is secure
 unfoldable pub receive_of : TagState → Shown → List ℕ → Result TagState
 receive_of t p payload =
-    let l = bits_of_bytes payload in
-    let v = stored_width (face_of t).width in
-    let cs = take (data_bits (width_of v) p.count) l in
-    compared_by (same_mac v l p.count (secrets_of t)) (with_session t (after_message v cs (secrets_of t))) (data_of v (eqb p.kind 2) cs (secrets_of t)) (closed_tag t)
+    received (with_session t) (closed_tag t) (stored_width (face_of t).width) (eqb p.kind 2) p.count (bits_of_bytes payload) (secrets_of t)
 
 -- kind 5 is secure
 unfoldable pub send_of : TagState → Message → Result TagState
 send_of t m =
-    let v = stored_width (face_of t).width in
-    let ms = take m.count (bits_of_bytes m.payload) in
-    done_by (with_session t (sent_session v (eqb m.kind 5) ms (secrets_of t))) (sent_bits v (eqb m.kind 5) ms (secrets_of t))
+    sent (with_session t) (stored_width (face_of t).width) (eqb m.kind 5) (take m.count (bits_of_bytes m.payload)) (secrets_of t)
 
 -- ---- the calls
 

@@ -17,8 +17,7 @@ use Rattle.payloads.proofs.Layouts.{length-zero, length_one, length-message}
 use Rattle.rules.specs.Answers.{number_of}
 use Rattle.rules.specs.Calls.{Command}
 use Rattle.rules.specs.Results.{done_by, said}
-use Rattle.states.specs.declared.tag.TagState.{TagState}
-use Rattle.states.specs.TagStates.{reset_tag}
+use Rattle.states.specs.TagStates.{TagState, reset_tag}
 use Rattle.states.proofs.TagStates.{face-reset, face-begun}
 use Rattle.machines.specs.TagWork.{failed, proved_by, command_of}
 use Rattle.promises.specs.Machines.{Given, ReaderMachine}

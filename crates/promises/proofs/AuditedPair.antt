@@ -14,8 +14,8 @@ use Rattle.grain.specs.Mac.{Mac}
 use Rattle.grain.proofs.Back.{Whole}
 use Rattle.payloads.specs.Payloads.{message}
 use Rattle.payloads.proofs.Layouts.{length-message}
-use Rattle.states.specs.declared.tag.TagState.{TagState}
-use Rattle.states.specs.declared.reader.ReaderState.{ReaderState}
+use Rattle.states.specs.TagStates.{TagState}
+use Rattle.states.specs.ReaderStates.{ReaderState}
 use Rattle.states.proofs.ReaderStates.{reader-face-of}
 use Rattle.states.proofs.TagStates.{face-open}
 use Rattle.promises.specs.Machines.{Given, ReaderMachine}

@@ -25,9 +25,8 @@ use Rattle.rules.specs.Answers.{verdict_of, closing_of, kept, if_sound}
 use Rattle.rules.specs.Calls.{Begin}
 use Rattle.rules.specs.Results.{decided}
 use Rattle.rules.specs.ReaderRules.{begin_verdict, reply_verdict, reply_work}
-use Rattle.states.specs.declared.reader.ReaderState.{ReaderState}
 use Rattle.states.specs.Sessions.{empty_session, session_fits}
-use Rattle.states.specs.ReaderStates.{reader_face_of, reader_secrets_of, reader_of, reader_sound, reset_reader, closed_reader, opened_reader}
+use Rattle.states.specs.ReaderStates.{ReaderState, reader_face_of, reader_secrets_of, reader_of, reader_sound, reset_reader, closed_reader, opened_reader}
 use Rattle.states.proofs.ReaderStates.{face_asked, secrets_asked}
 use Rattle.machines.specs.ReaderWork.{begin_of, replied_of, answered_by}
 use Rattle.promises.specs.Machines.{TagMachine}

@@ -19,9 +19,8 @@ use Rattle.rules.specs.Answers.{verdict_of, closing_of, if_sound}
 use Rattle.rules.specs.Calls.{Command}
 use Rattle.rules.specs.Results.{Result, decided, said}
 use Rattle.rules.specs.TagRules.{key_under, shown_of, command_verdict, command_work}
-use Rattle.states.specs.declared.tag.TagState.{TagState}
 use Rattle.states.specs.Sessions.{empty_register, empty_session, session_fits}
-use Rattle.states.specs.TagStates.{face_of, secrets_of, tag_of, sound_of, reset_tag, closed_tag, begun_tag, open_tag, with_session}
+use Rattle.states.specs.TagStates.{TagState, face_of, secrets_of, tag_of, sound_of, reset_tag, closed_tag, begun_tag, open_tag, with_session}
 use Rattle.states.proofs.TagStates.{face-open}
 use Rattle.machines.specs.TagWork.{challenged, command_of, carried_of, worked_of, start_of, started_by, receive_of}
 use Rattle.machines.proofs.TagSound.{open-sound}

@@ -15,9 +15,8 @@ use Rattle.payloads.proofs.Layouts.{length-zero, length_one, length_proof, lengt
 use Rattle.rules.specs.Answers.{number_of}
 use Rattle.rules.specs.Calls.{Command, Message}
 use Rattle.rules.specs.Results.{Result, done_by}
-use Rattle.states.specs.declared.tag.TagState.{TagState}
-use Rattle.states.specs.declared.reader.ReaderState.{ReaderState}
-use Rattle.states.specs.ReaderStates.{reader_secrets_of, opened_reader}
+use Rattle.states.specs.TagStates.{TagState}
+use Rattle.states.specs.ReaderStates.{ReaderState, reader_secrets_of, opened_reader}
 use Rattle.machines.specs.ReaderWork.{matched}
 use Rattle.promises.specs.Machines.{Given, TagMachine, ReaderMachine}
 use Rattle.promises.specs.Ours.{given, our_tag, our_reader}

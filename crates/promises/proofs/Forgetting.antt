@@ -32,9 +32,8 @@ use Rattle.rules.specs.Results.{Result, said, decided, compared_by}
 use Rattle.rules.specs.TagRules.{key_under, shown_of, command_verdict, command_work}
 use Rattle.rules.proofs.Verdicts.{sound_goes}
 use Rattle.rules.proofs.TagLaws.{command_passed, command_receivable}
-use Rattle.states.specs.declared.tag.TagState.{TagState}
 use Rattle.states.specs.Sessions.{stored_width, after_message, data_of, same_mac}
-use Rattle.states.specs.TagStates.{face_of, secrets_of, sound_of, closed_tag, with_session}
+use Rattle.states.specs.TagStates.{TagState, face_of, secrets_of, sound_of, closed_tag, with_session}
 use Rattle.states.proofs.Sessions.{width-stored}
 use Rattle.machines.specs.TagWork.{start_of, prove_of, receive_of, worked_of, carried_of, command_of, send_of, response_of}
 use Rattle.machines.proofs.TagSound.{face-sound}

@@ -15,9 +15,8 @@ use Rattle.rules.specs.Answers.{verdict_of, closing_of, if_sound}
 use Rattle.rules.specs.Calls.{Command}
 use Rattle.rules.specs.Results.{said, decided, Outcome}
 use Rattle.rules.specs.TagRules.{key_under, shown_of, command_verdict, command_work}
-use Rattle.states.specs.declared.tag.TagState.{TagState}
 use Rattle.states.specs.Sessions.{key_in, begun_engine, filled_session, chosen_width, session_fits}
-use Rattle.states.specs.TagStates.{face_of, secrets_of, tag_of, sound_of, reset_tag}
+use Rattle.states.specs.TagStates.{TagState, face_of, secrets_of, tag_of, sound_of, reset_tag}
 use Rattle.machines.specs.TagWork.{challenged, command_of, carried_of, worked_of, start_of, started_by, ta_started}
 use Rattle.promises.specs.Machines.{TagMachine}
 use Rattle.promises.specs.Silence.{together, Silent}

@@ -20,9 +20,8 @@ use Rattle.rules.specs.Calls.{Command}
 use Rattle.rules.specs.Results.{said, decided}
 use Rattle.rules.specs.TagRules.{shown_of, command_verdict, command_work}
 use Rattle.rules.proofs.Verdicts.{soundly}
-use Rattle.states.specs.declared.tag.TagState.{TagState}
 use Rattle.states.specs.Sessions.{filled_session, next_keystream, chosen_width}
-use Rattle.states.specs.TagStates.{secrets_of, sound_of, begun_face, begun_tag}
+use Rattle.states.specs.TagStates.{TagState, secrets_of, sound_of, begun_face, begun_tag}
 use Rattle.states.proofs.TagStates.{secrets_of_lem, face-begun, secrets_begun}
 use Rattle.machines.specs.TagWork.{failed, command_of, carried_of, worked_of, prove_of, proved_by}
 use Rattle.machines.proofs.TagSound.{begun-sound}

@@ -28,9 +28,8 @@ use Rattle.rules.specs.Calls.{Command}
 use Rattle.rules.specs.Results.{said, decided, refused_by, compared_by}
 use Rattle.rules.specs.TagRules.{shown_of, command_verdict, command_work}
 use Rattle.rules.proofs.Verdicts.{soundly}
-use Rattle.states.specs.declared.tag.TagState.{TagState}
 use Rattle.states.specs.Sessions.{filled_session, next_keystream, with_engine, after_message, data_of, same_mac}
-use Rattle.states.specs.TagStates.{sound_of, begun_face, begun_tag, open_by, closed_tag, open_tag}
+use Rattle.states.specs.TagStates.{TagState, sound_of, begun_face, begun_tag, open_by, closed_tag, open_tag}
 use Rattle.states.proofs.Sessions.{filled-fits}
 use Rattle.states.proofs.TagStates.{face-begun, secrets_begun, face-open, secrets_open}
 use Rattle.machines.specs.TagWork.{command_of, carried_of, worked_of, prove_of, proved_by, mutually_proved, receive_of}

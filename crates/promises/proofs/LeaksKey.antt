@@ -21,9 +21,8 @@ use Rattle.rules.specs.Calls.{Command}
 use Rattle.rules.specs.Results.{said, decided, refused_by}
 use Rattle.rules.specs.TagRules.{shown_of, command_verdict, command_work}
 use Rattle.rules.proofs.Verdicts.{soundly}
-use Rattle.states.specs.declared.tag.TagState.{TagState}
 use Rattle.states.specs.Sessions.{filled_session, next_keystream, chosen_width, session_fits, with_engine}
-use Rattle.states.specs.TagStates.{face_of, secrets_of, tag_of, sound_of, begun_face, reset_tag, begun_tag, open_by, closed_tag, open_tag}
+use Rattle.states.specs.TagStates.{TagState, face_of, secrets_of, tag_of, sound_of, begun_face, reset_tag, begun_tag, open_by, closed_tag, open_tag}
 use Rattle.states.proofs.Sessions.{filled-fits}
 use Rattle.states.proofs.TagStates.{face-begun, face-open, face-of}
 use Rattle.machines.specs.TagWork.{challenged, command_of, carried_of}

@@ -25,8 +25,7 @@ use Rattle.rules.specs.Calls.{Begin}
 use Rattle.rules.specs.Results.{Result, refused_by, said, decided}
 use Rattle.rules.specs.ReaderRules.{reply_shown, reply_keeping, reply_closing, reply_verdict, reply_work}
 use Rattle.rules.proofs.Verdicts.{Plain, by_order}
-use Rattle.states.specs.declared.reader.ReaderState.{ReaderState}
-use Rattle.states.specs.ReaderStates.{reader_face_of, reader_sound, closed_reader}
+use Rattle.states.specs.ReaderStates.{ReaderState, reader_face_of, reader_sound, closed_reader}
 use Rattle.machines.specs.ReaderWork.{replied_of, answered_by, compare_of, answer_of, matched}
 use Rattle.promises.specs.Machines.{Given, ReaderMachine}
 use Rattle.promises.specs.Ours.{given, our_reader}

@@ -29,11 +29,9 @@ use Rattle.rules.specs.Results.{done_by, refused_by, compared_by, said}
 use Rattle.rules.specs.TagRules.{shown_of, command_verdict, command_work}
 use Rattle.rules.specs.ReaderRules.{reply_length, reply_work}
 use Rattle.rules.proofs.Verdicts.{works}
-use Rattle.states.specs.declared.tag.TagState.{TagState}
-use Rattle.states.specs.declared.reader.ReaderState.{ReaderState}
 use Rattle.states.specs.Sessions.{chosen_width, filled_session, next_keystream, with_engine, session_fits}
-use Rattle.states.specs.TagStates.{face_of, secrets_of, begun_tag, open_tag}
-use Rattle.states.specs.ReaderStates.{reader_face_of, reader_sound, begun_reader_face, moved_face, closed_reader, filled_reader, opened_reader}
+use Rattle.states.specs.TagStates.{TagState, face_of, secrets_of, begun_tag, open_tag}
+use Rattle.states.specs.ReaderStates.{ReaderState, reader_face_of, reader_sound, begun_reader_face, moved_face, closed_reader, filled_reader, opened_reader}
 use Rattle.states.proofs.TagStates.{face-begun, secrets_begun}
 use Rattle.states.proofs.ReaderStates.{face_asked, face-filled, secrets_filled}
 use Rattle.machines.specs.TagWork.{command_of, carried_of, worked_of, started_by, prove_of, proved_by, failed}

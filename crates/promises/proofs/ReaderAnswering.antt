@@ -24,9 +24,8 @@ use Rattle.rules.specs.Results.{Result, done_by, refused_by, said}
 use Rattle.rules.specs.ReaderRules.{begin_verdict, reply_verdict, reply_work, send_verdict, receive_verdict}
 use Rattle.rules.proofs.Verdicts.{passed, sound_goes, kept_decides}
 use Rattle.rules.proofs.ReaderLaws.{talking, send_passed, send_sendable, receive_receivable}
-use Rattle.states.specs.declared.reader.ReaderState.{ReaderState}
 use Rattle.states.specs.Sessions.{next_keystream}
-use Rattle.states.specs.ReaderStates.{reader_face_of, reader_secrets_of, reader_sound, closed_reader}
+use Rattle.states.specs.ReaderStates.{ReaderState, reader_face_of, reader_secrets_of, reader_sound, closed_reader}
 use Rattle.states.proofs.ReaderStates.{face-shut, face_asked, face-filled, face-opened, face-moved}
 use Rattle.machines.specs.ReaderWork.{begin_of, answer_session, matched, compare_of, answer_of, confirm_of, answered_by, replied_of, sent_by, sending_of, received_by, receiving_of}
 use Rattle.machines.proofs.ReaderSound.{reader-face-sound, begin-sound, replied-sound, sending_sound, receiving_sound}

@@ -24,9 +24,8 @@ use Rattle.rules.specs.Results.{said}
 use Rattle.rules.specs.ReaderRules.{reply_shown, reply_keeping, reply_closing, reply_verdict, reply_work, receive_verdict}
 use Rattle.rules.proofs.Verdicts.{passed, sound_goes}
 use Rattle.rules.proofs.ReaderLaws.{receive_receivable}
-use Rattle.states.specs.declared.reader.ReaderState.{ReaderState}
 use Rattle.states.specs.Sessions.{stored_width}
-use Rattle.states.specs.ReaderStates.{reader_face_of, reader_secrets_of, reader_sound, closed_reader, with_reader_session}
+use Rattle.states.specs.ReaderStates.{ReaderState, reader_face_of, reader_secrets_of, reader_sound, closed_reader, with_reader_session}
 use Rattle.states.proofs.Sessions.{width-stored}
 use Rattle.machines.specs.ReaderWork.{answer_session, compare_of, answer_of, confirm_of, answered_by, replied_of, sent_by, sending_of, received_by, receiving_of}
 use Rattle.machines.proofs.ReaderSound.{reader-face-sound}

@@ -29,11 +29,9 @@ use Rattle.rules.specs.Calls.{Command}
 use Rattle.rules.specs.Results.{Result, refused_by, compared_by, decided, said}
 use Rattle.rules.specs.TagRules.{shown_of, command_work}
 use Rattle.rules.specs.ReaderRules.{reply_work}
-use Rattle.states.specs.declared.tag.TagState.{TagState}
-use Rattle.states.specs.declared.reader.ReaderState.{ReaderState}
 use Rattle.states.specs.Sessions.{empty_session, empty_register, session_fits}
-use Rattle.states.specs.TagStates.{face_of, sound_of, reset_tag, closed_tag, begun_tag, open_tag, begun_face}
-use Rattle.states.specs.ReaderStates.{reader_sound, closed_reader, begun_reader, begun_reader_face}
+use Rattle.states.specs.TagStates.{TagState, face_of, sound_of, reset_tag, closed_tag, begun_tag, open_tag, begun_face}
+use Rattle.states.specs.ReaderStates.{ReaderState, reader_sound, closed_reader, begun_reader, begun_reader_face}
 use Rattle.states.proofs.TagStates.{face-closed, face-begun, face-open}
 use Rattle.states.proofs.ReaderStates.{face_asked, secrets_asked}
 use Rattle.machines.specs.TagWork.{worked_of, receive_of, prove_of, proved_by, error_type_of, command_of}

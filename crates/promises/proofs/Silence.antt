@@ -6,8 +6,7 @@ use Prim.Native.Nat.{ℕ}
 use lib.Dec.{eqb}
 use lib.ListN.{length}
 use Rattle.faces.specs.declared.Face.{Face}
-use Rattle.states.specs.declared.tag.TagState.{TagState}
-use Rattle.states.specs.TagStates.{face_of, sound_of}
+use Rattle.states.specs.TagStates.{TagState, face_of, sound_of}
 use Rattle.states.proofs.TagStates.{face-closed, closed_same}
 use Rattle.machines.specs.TagWork.{error_type_of}
 use Rattle.machines.proofs.TagSound.{reset-sound, command-sound, response-sound, close-sound}

@@ -31,9 +31,8 @@ use Rattle.rules.specs.Results.{Result, Outcome, done_by, compared_by, said, rea
 use Rattle.rules.specs.TagRules.{shown_of, command_verdict, command_work, response_keeping, response_closing, response_verdict}
 use Rattle.rules.proofs.Verdicts.{Passed, by_order, soundly}
 use Rattle.rules.proofs.TagLaws.{Sendable, sendable}
-use Rattle.states.specs.declared.tag.TagState.{TagState}
 use Rattle.states.specs.Sessions.{stored_width}
-use Rattle.states.specs.TagStates.{face_of, sound_of, closed_tag, failed_tag}
+use Rattle.states.specs.TagStates.{TagState, face_of, sound_of, closed_tag, failed_tag}
 use Rattle.states.proofs.Sessions.{width-stored, sent_bits_lem, received_bits}
 use Rattle.states.proofs.TagStates.{face-begun, face-closed, face-failed, face-open, face_with, closed_same}
 use Rattle.machines.specs.TagWork.{started_by, start_of, proved_by, prove_of, receive_of, send_of, worked_of, carried_of, command_of, response_of}

@@ -10,10 +10,9 @@ use Rattle.rules.specs.Calls.{Begin}
 use Rattle.rules.specs.Results.{Result, decided}
 use Rattle.rules.specs.ReaderRules.{begin_verdict}
 use Rattle.rules.proofs.Verdicts.{kept_decides}
-use Rattle.states.specs.declared.reader.ReaderState.{ReaderState}
 use Rattle.states.specs.Sessions.{session_fits}
 use Rattle.states.specs.TagStates.{face_of, tag_of, sound_of, reset_tag, closed_tag}
-use Rattle.states.specs.ReaderStates.{reader_face_of, reader_secrets_of, reader_of, reader_sound, reset_reader, closed_reader}
+use Rattle.states.specs.ReaderStates.{ReaderState, reader_face_of, reader_secrets_of, reader_of, reader_sound, reset_reader, closed_reader}
 use Rattle.states.proofs.TagStates.{parts_of_lem, secrets_of_lem, face-reset, face-closed}
 use Rattle.states.proofs.ReaderStates.{reader_parts_of, reader_secrets_of_lem, face-idle, face-shut, secrets_asked}
 use Rattle.machines.specs.TagWork.{error_type_of}

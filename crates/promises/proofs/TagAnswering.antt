@@ -27,9 +27,8 @@ use Rattle.rules.specs.Results.{Result, done_by, said}
 use Rattle.rules.specs.TagRules.{shown_of, command_verdict, command_work, response_verdict}
 use Rattle.rules.proofs.Verdicts.{sound_goes}
 use Rattle.rules.proofs.TagLaws.{command_passed, command_receivable, response_passed, response_sendable}
-use Rattle.states.specs.declared.tag.TagState.{TagState}
 use Rattle.states.specs.Sessions.{chosen_width, filled_session, next_keystream}
-use Rattle.states.specs.TagStates.{face_of, secrets_of, sound_of, closed_tag}
+use Rattle.states.specs.TagStates.{TagState, face_of, secrets_of, sound_of, closed_tag}
 use Rattle.states.proofs.TagStates.{face-begun, face-closed, face-failed, face-open, face_with}
 use Rattle.machines.specs.TagWork.{ta_started, challenged, started_by, start_of, proved_by, prove_of, receive_of, send_of, worked_of, carried_of, command_of, response_of}
 use Rattle.machines.proofs.TagSound.{face-sound, command-sound, response-sound}

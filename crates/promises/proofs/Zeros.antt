@@ -19,8 +19,7 @@ use Rattle.payloads.specs.Payloads.{tag_proof, tag_challenge, tag_keystream_in, 
 use Rattle.payloads.proofs.Layouts.{length-zero, length_proof, length-challenge}
 use Rattle.payloads.proofs.Reading.{proof_keystream}
 use Rattle.rules.specs.Results.{compared_by}
-use Rattle.states.specs.declared.tag.TagState.{TagState}
-use Rattle.states.specs.TagStates.{reset_tag}
+use Rattle.states.specs.TagStates.{TagState, reset_tag}
 use Rattle.machines.specs.ReaderWork.{matched}
 use Rattle.promises.specs.Machines.{Given, ReaderMachine}
 use Rattle.promises.specs.Transcript.{begun_mac, first_word, step_zero_bits, tag_proof_bits}

@@ -12,9 +12,8 @@ use Rattle.rules.specs.Answers.{verdict_of, if_sound}
 use Rattle.rules.specs.Calls.{Command, message_shown}
 use Rattle.rules.specs.Results.{Result, done_by, said, decided}
 use Rattle.rules.specs.TagRules.{key_under, shown_of, command_keeping, command_closing, command_verdict, command_work, response_verdict}
-use Rattle.states.specs.declared.tag.TagState.{TagState}
 use Rattle.states.specs.Sessions.{key_in, begun_engine, unfilled, empty_engine}
-use Rattle.states.specs.TagStates.{face_of, secrets_of, sound_of, reset_tag, closed_tag, with_session}
+use Rattle.states.specs.TagStates.{TagState, face_of, secrets_of, sound_of, reset_tag, closed_tag, with_session}
 use Rattle.machines.specs.TagWork.{started_by, failed, worked_of, send_of}
 use Rattle.promises.specs.Machines.{Given, TagMachine}
 use Rattle.promises.specs.Ours.{given, our_tag}

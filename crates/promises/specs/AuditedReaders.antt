@@ -12,9 +12,8 @@ use Rattle.faces.specs.declared.Stage.TheVariants.{Idle}
 use Rattle.faces.specs.ReaderFaces.{stage_row}
 use Rattle.rules.specs.Calls.{Begin}
 use Rattle.rules.specs.Results.{done_by, said, reached}
-use Rattle.states.specs.declared.reader.ReaderState.{ReaderState}
 use Rattle.states.specs.Sessions.{chosen_width, begun_engine, filled_session, next_keystream, with_engine, empty_session}
-use Rattle.states.specs.ReaderStates.{reader_face_of, reader_secrets_of, reader_of, closed_reader, filled_reader, opened_reader}
+use Rattle.states.specs.ReaderStates.{ReaderState, reader_face_of, reader_secrets_of, reader_of, closed_reader, filled_reader, opened_reader}
 use Rattle.machines.specs.ReaderWork.{matched}
 use Rattle.promises.specs.Machines.{Given, ReaderMachine}
 use Rattle.promises.specs.Order.{closes}

@@ -9,9 +9,8 @@ use Rattle.grain.specs.Stored.{width_of}
 use Rattle.payloads.specs.Payloads.{options_in, data_bits, zeros_of}
 use Rattle.faces.specs.declared.Face.{Face}
 use Rattle.rules.specs.Calls.{Command}
-use Rattle.states.specs.declared.tag.TagState.{TagState}
 use Rattle.states.specs.Sessions.{chosen_width, stored_width, filled_session, next_keystream, data_of}
-use Rattle.states.specs.TagStates.{face_of, secrets_of, tag_of}
+use Rattle.states.specs.TagStates.{TagState, face_of, secrets_of, tag_of}
 use Rattle.promises.specs.Machines.{Given, TagMachine}
 use Rattle.promises.specs.Silence.{reply_of}
 use Rattle.promises.specs.Ours.{our_tag}

@@ -8,8 +8,7 @@ use Rattle.faces.specs.ReaderFaces.{stage_row}
 use Rattle.rules.specs.declared.Answer.TheVariants.{Unsupported}
 use Rattle.rules.specs.Calls.{Begin}
 use Rattle.rules.specs.Results.{refused_by}
-use Rattle.states.specs.declared.reader.ReaderState.{ReaderState}
-use Rattle.states.specs.ReaderStates.{reader_face_of, closed_reader}
+use Rattle.states.specs.ReaderStates.{ReaderState, reader_face_of, closed_reader}
 use Rattle.promises.specs.Machines.{Given, ReaderMachine}
 use Rattle.promises.specs.Ours.{given, our_reader}
 use Rattle.promises.specs.Order.{no_session}

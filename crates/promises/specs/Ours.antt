@@ -5,10 +5,8 @@ use Rattle.std.specs.Prelude.{List, ℕ, length}
 use Rattle.bits.specs.Area.{shown}
 use Rattle.rules.specs.Answers.{number_of}
 use Rattle.rules.specs.Results.{Result}
-use Rattle.states.specs.declared.tag.TagState.{TagState}
-use Rattle.states.specs.declared.reader.ReaderState.{ReaderState}
-use Rattle.states.specs.TagStates.{face_of, secrets_of, sound_of, closed_tag}
-use Rattle.states.specs.ReaderStates.{reader_face_of, reader_secrets_of, reader_sound}
+use Rattle.states.specs.TagStates.{TagState, face_of, secrets_of, sound_of, closed_tag}
+use Rattle.states.specs.ReaderStates.{ReaderState, reader_face_of, reader_secrets_of, reader_sound}
 use Rattle.machines.specs.TagWork.{reset_of, command_of, response_of, error_type_of}
 use Rattle.machines.specs.ReaderWork.{reader_reset, begin_of, replied_of, sending_of, receiving_of}
 use Rattle.promises.specs.Machines.{Given, TagMachine, ReaderMachine}

@@ -10,9 +10,8 @@ use Rattle.payloads.specs.Payloads.{options_in, reader_keystream_in, data_bits}
 use Rattle.faces.specs.TagFaces.{mutually}
 use Rattle.rules.specs.Calls.{Command, Message}
 use Rattle.rules.specs.Results.{Result, done_by, said}
-use Rattle.states.specs.declared.tag.TagState.{TagState}
 use Rattle.states.specs.Sessions.{chosen_width, stored_width, filled_session, next_keystream, after_message, data_of}
-use Rattle.states.specs.TagStates.{face_of, secrets_of, with_session}
+use Rattle.states.specs.TagStates.{TagState, face_of, secrets_of, with_session}
 use Rattle.machines.specs.TagWork.{proved_by}
 use Rattle.promises.specs.Machines.{Given, TagMachine}
 use Rattle.promises.specs.Ours.{given, our_tag}

@@ -7,9 +7,8 @@ use Rattle.grain.specs.Stored.{width_of}
 use Rattle.payloads.specs.Payloads.{tag_keystream_in, mutual_keystream_in, data_bits}
 use Rattle.rules.specs.Calls.{Message}
 use Rattle.rules.specs.Results.{Result, done_by, said}
-use Rattle.states.specs.declared.reader.ReaderState.{ReaderState}
 use Rattle.states.specs.Sessions.{stored_width, next_keystream, with_engine, after_message, data_of}
-use Rattle.states.specs.ReaderStates.{reader_face_of, reader_secrets_of, filled_reader, opened_reader, with_reader_session}
+use Rattle.states.specs.ReaderStates.{ReaderState, reader_face_of, reader_secrets_of, filled_reader, opened_reader, with_reader_session}
 use Rattle.machines.specs.ReaderWork.{answer_session, matched}
 use Rattle.promises.specs.Machines.{Given, ReaderMachine}
 use Rattle.promises.specs.Ours.{given, our_reader}

@@ -18,8 +18,7 @@ use Rattle.rules.specs.Answers.{Verdict, keep, verdict_of, if_sound}
 use Rattle.rules.specs.Results.{decided, said}
 use Rattle.rules.specs.TagRules.{key_under, shown_of, command_keeping, command_closing, command_work}
 use Rattle.rules.specs.ReaderRules.{reply_shown, reply_keeping, reply_closing, reply_work}
-use Rattle.states.specs.declared.tag.TagState.{TagState}
-use Rattle.states.specs.TagStates.{face_of, sound_of, closed_tag}
+use Rattle.states.specs.TagStates.{TagState, face_of, sound_of, closed_tag}
 use Rattle.states.specs.ReaderStates.{reader_face_of, reader_sound, closed_reader}
 use Rattle.machines.specs.TagWork.{worked_of}
 use Rattle.machines.specs.ReaderWork.{answered_by}

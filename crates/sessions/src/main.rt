@@ -4,7 +4,8 @@
 #![tactic(auto)]
 
 use rules::Answer;
-use suite::{Reader, ReaderStep, Step, Tag};
+use states::{ReaderState, TagState};
+use suite::{Reader, Step, Tag};
 use text::Line;
 
 // The methods, by their numbers in a payload.
@@ -220,7 +221,7 @@ impl<'a, P: Print> Run<'a, P> {
         self.after_reader(b"reader receive ", step, reply)
     }
 
-    fn after_reader(self, name: &[u8], step: ReaderStep, reply: &[u8]) -> Self {
+    fn after_reader(self, name: &[u8], step: Step<ReaderState>, reply: &[u8]) -> Self {
         print_call(self.rt, name, step.answer, step.bits, reply);
         Run {
             reader: step.next,
@@ -241,7 +242,7 @@ impl<'a, P: Print> Run<'a, P> {
         self.after_tag(b"tag response ", step, reply)
     }
 
-    fn after_tag(self, name: &[u8], step: Step, reply: &[u8]) -> Self {
+    fn after_tag(self, name: &[u8], step: Step<TagState>, reply: &[u8]) -> Self {
         print_call(self.rt, name, step.answer, step.bits, reply);
         Run {
             tag: step.next,

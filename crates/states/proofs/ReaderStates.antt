@@ -1,31 +1,14 @@
 -- The doors of the reader's state: what each shows. Assumes nothing.
-use mathlib.Core.Path.{◌≡◌, refl}
+use mathlib.Core.Path.{◌≡◌}
 use mathlib.Core.Bool.{Bool, cond}
 use Prim.Native.Nat.{ℕ}
 use Rattle.grain.specs.declared.Register.{Register}
 use Rattle.grain.specs.declared.Session.{Session}
 use Rattle.payloads.specs.Payloads.{mac_bits}
-use Rattle.faces.specs.declared.ReaderFace.{ReaderFace}
 use Rattle.faces.specs.declared.Stage.TheVariants.{Idle, Step1Sent, Open, Closed}
-use Rattle.states.specs.declared.reader.ReaderState.{ReaderState}
 use Rattle.states.specs.Sessions.{empty_register, unfilled}
-use Rattle.states.specs.ReaderStates.{reader_face_of, reader_secrets_of, reader_of, empty_reader_face, begun_reader_face, moved_face, reset_reader, closed_reader, begun_reader, filled_reader, opened_reader, with_reader_session}
-
--- ---- parts
-
-pub reader-face-of : (f : ReaderFace) (x : Session) → reader_face_of (reader_of f x) ≡ f
-unfolding reader_face_of reader_of
-reader-face-of f x = refl
-
-pub reader_secrets_of_lem : (f : ReaderFace) (x : Session) → reader_secrets_of (reader_of f x) ≡ x
-unfolding reader_secrets_of reader_of
-reader_secrets_of_lem f x = refl
-
-pub reader_parts_of : (r : ReaderState) → reader_of (reader_face_of r) (reader_secrets_of r) ≡ r
-unfolding reader_face_of reader_secrets_of reader_of
-reader_parts_of r = refl
-
--- ---- the doors
+use Rattle.states.specs.ReaderStates.{ReaderState, reader_face_of, reader_secrets_of, empty_reader_face, begun_reader_face, moved_face, reset_reader, closed_reader, begun_reader, filled_reader, opened_reader}
+pub use Rattle.states.proofs.States.{face-of as reader-face-of, secrets_of_lem as reader_secrets_of_lem, parts_of_lem as reader_parts_of, face_with as face-moved, with_of as reader_with_of}
 
 pub face-idle : reader_face_of reset_reader ≡ empty_reader_face Idle
 unfolding reset_reader
@@ -55,11 +38,3 @@ secrets_filled opens r x = reader_secrets_of_lem _ _
 pub face-opened : (r : ReaderState) (x : Session) → reader_face_of (opened_reader r x) ≡ moved_face Open (reader_face_of r).width (reader_face_of r)
 unfolding opened_reader
 face-opened r x = reader-face-of _ _
-
-pub face-moved : (r : ReaderState) (x : Session) → reader_face_of (with_reader_session r x) ≡ reader_face_of r
-unfolding with_reader_session
-face-moved r x = reader-face-of _ _
-
-pub reader_with_of : (f : ReaderFace) (x y : Session) → with_reader_session (reader_of f x) y ≡ reader_of f y
-unfolding with_reader_session
-reader_with_of f x y = rw (reader-face-of f x)

@@ -1,5 +1,5 @@
 -- The doors of the tag's state: what each shows. Assumes nothing.
-use mathlib.Core.Path.{◌≡◌, refl, ap}
+use mathlib.Core.Path.{◌≡◌, ap}
 use mathlib.Core.Bool.{Bool, true, false, cond}
 use Prim.Native.Nat.{ℕ}
 use Rattle.grain.specs.declared.Engine.{Engine}
@@ -7,25 +7,9 @@ use Rattle.grain.specs.declared.Method.{Method}
 use Rattle.grain.specs.declared.Session.{Session}
 use Rattle.faces.specs.declared.Face.{Face}
 use Rattle.faces.specs.declared.Name.TheVariants.{CsReset, Ia2, Ma2}
-use Rattle.states.specs.declared.tag.TagState.{TagState}
 use Rattle.states.specs.Sessions.{unfilled, empty_session}
-use Rattle.states.specs.TagStates.{face_of, secrets_of, tag_of, bare_face, closed_face, begun_face, open_by, reset_tag, closed_tag, failed_tag, begun_tag, open_tag, with_session}
-
--- ---- parts
-
-pub face-of : (f : Face) (x : Session) → face_of (tag_of f x) ≡ f
-unfolding face_of tag_of
-face-of f x = refl
-
-pub secrets_of_lem : (f : Face) (x : Session) → secrets_of (tag_of f x) ≡ x
-unfolding secrets_of tag_of
-secrets_of_lem f x = refl
-
-pub parts_of_lem : (t : TagState) → tag_of (face_of t) (secrets_of t) ≡ t
-unfolding face_of secrets_of tag_of
-parts_of_lem t = refl
-
--- ---- the doors
+use Rattle.states.specs.TagStates.{TagState, face_of, secrets_of, tag_of, bare_face, closed_face, begun_face, open_by, reset_tag, closed_tag, failed_tag, begun_tag, open_tag}
+pub use Rattle.states.proofs.States.{face-of, secrets_of_lem, parts_of_lem, face_with, with_of}
 
 pub face-reset : face_of reset_tag ≡ bare_face CsReset false false false false
 unfolding reset_tag
@@ -59,11 +43,3 @@ face-open m k o x = face-of _ _
 pub secrets_open : (m : Method) (k o : ℕ) (x : Session) → secrets_of (open_tag m k o x) ≡ x
 unfolding open_tag
 secrets_open m k o x = secrets_of_lem _ _
-
-pub face_with : (t : TagState) (x : Session) → face_of (with_session t x) ≡ face_of t
-unfolding with_session
-face_with t x = face-of _ _
-
-pub with_of : (f : Face) (x y : Session) → with_session (tag_of f x) y ≡ tag_of f y
-unfolding with_session
-with_of f x y = rw (face-of f x)

@@ -1,4 +1,5 @@
 -- What the contracts of `states` cite.
 pub mod Sessions
+pub mod States
 pub mod TagStates
 pub mod ReaderStates

@@ -1,6 +1,5 @@
--- The reader's stored state. It has public parts, its face, and secret ones, its session, and every call goes in and out by the doors
--- below: nothing else knows what a state is made of. Assumes nothing.
-use Rattle.std.specs.Prelude.{Bool, cond, ◌&&◌, ℕ}
+-- The reader's stored state: its doors. Assumes nothing.
+use Rattle.std.specs.Prelude.{Bool, cond, ℕ}
 use Rattle.grain.specs.declared.Register.{Register}
 use Rattle.grain.specs.declared.Session.{Session}
 use Rattle.payloads.specs.Payloads.{mac_bits}
@@ -8,26 +7,20 @@ use Rattle.faces.specs.declared.Stage.{Stage}
 use Rattle.faces.specs.declared.Stage.TheVariants.{Idle, Step0Sent, Step1Sent, Open, Closed}
 use Rattle.faces.specs.declared.ReaderFace.{ReaderFace}
 use Rattle.faces.specs.ReaderFaces.{reader_bare, reader_fits}
-use Rattle.states.specs.declared.reader.ReaderState.{ReaderState}
-use Rattle.states.specs.Sessions.{empty_register, unfilled, empty_session, session_fits}
+use Rattle.states.specs.declared.doors.State.{State}
+use Rattle.states.specs.Sessions.{empty_register, unfilled, empty_session}
+use Rattle.states.specs.States.{sound_by}
+unfoldable pub use Rattle.states.specs.States.{face_of as reader_face_of, secrets_of as reader_secrets_of, stored_of as reader_of, with_session as with_reader_session}
 
 -- ---- looking in
 
--- the public parts: what a call's checks see of the state
-unfoldable pub reader_face_of : ReaderState → ReaderFace
-reader_face_of r = r.face
-
--- "registers, accumulator, register"
-unfoldable pub reader_secrets_of : ReaderState → Session
-reader_secrets_of r = r.session
-
--- a state of any parts, sound or not
-unfoldable pub reader_of : ReaderFace → Session → ReaderState
-reader_of f x = record { face = f; session = x }
+-- the reader's face, and its session
+abbrev pub ReaderState : Type 0
+ReaderState = State ReaderFace
 
 -- "8 is given exactly when" its parts are against the rules
 unfoldable pub reader_sound : ReaderState → Bool
-reader_sound r = reader_fits (reader_face_of r) && session_fits (reader_bare (reader_face_of r)) (reader_face_of r).width (reader_secrets_of r)
+reader_sound r = sound_by reader_fits reader_bare (λ f. f.width) r
 
 -- ---- the faces of the states
 
@@ -65,7 +58,3 @@ filled_reader opens r x = reader_of (moved_face (cond opens Open Step1Sent) (mac
 -- the response to step 1 opens it
 unfoldable pub opened_reader : ReaderState → Session → ReaderState
 opened_reader r x = reader_of (moved_face Open (reader_face_of r).width (reader_face_of r)) x
-
--- a message moves the session alone
-unfoldable pub with_reader_session : ReaderState → Session → ReaderState
-with_reader_session r x = reader_of (reader_face_of r) x

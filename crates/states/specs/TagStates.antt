@@ -1,6 +1,5 @@
--- The tag's stored state. It has public parts, its face, and secret ones, its session, and every call goes in and out by the doors
--- below: nothing else knows what a state is made of. Assumes nothing.
-use Rattle.std.specs.Prelude.{Bool, true, false, cond, ◌&&◌, ℕ}
+-- The tag's stored state: its doors. Assumes nothing.
+use Rattle.std.specs.Prelude.{Bool, true, false, cond, ℕ}
 use Rattle.grain.specs.declared.Engine.{Engine}
 use Rattle.grain.specs.declared.Session.{Session}
 use Rattle.grain.specs.declared.Method.{Method}
@@ -10,26 +9,20 @@ use Rattle.faces.specs.declared.Name.{Name}
 use Rattle.faces.specs.declared.Name.TheVariants.{CsReset, Ta1, Ia1, Ia2, Ma1, Ma2}
 use Rattle.faces.specs.declared.Face.{Face}
 use Rattle.faces.specs.TagFaces.{bare, face_fits}
-use Rattle.states.specs.declared.tag.TagState.{TagState}
-use Rattle.states.specs.Sessions.{unfilled, empty_session, session_fits}
+use Rattle.states.specs.declared.doors.State.{State}
+use Rattle.states.specs.Sessions.{unfilled, empty_session}
+use Rattle.states.specs.States.{sound_by}
+unfoldable pub use Rattle.states.specs.States.{face_of, secrets_of, stored_of as tag_of, with_session}
 
 -- ---- looking in
 
--- the public parts: what a call's checks see of the state
-unfoldable pub face_of : TagState → Face
-face_of t = t.face
-
--- "registers, accumulator, register"
-unfoldable pub secrets_of : TagState → Session
-secrets_of t = t.session
-
--- a state of any parts, sound or not
-unfoldable pub tag_of : Face → Session → TagState
-tag_of f x = record { face = f; session = x }
+-- the tag's face, and its session
+abbrev pub TagState : Type 0
+TagState = State Face
 
 -- "8 is given exactly when" its parts are against the rules
 unfoldable pub sound_of : TagState → Bool
-sound_of t = face_fits (face_of t) && session_fits (bare (face_of t)) (face_of t).width (secrets_of t)
+sound_of t = sound_by face_fits bare (λ f. f.width) t
 
 -- ---- the faces of the table's states
 
@@ -85,7 +78,3 @@ begun_tag both keyid e = tag_of (begun_face both keyid) (unfilled e)
 -- opened, by its method
 unfoldable pub open_tag : Method → ℕ → ℕ → Session → TagState
 open_tag method keyid options x = tag_of (open_by method keyid options) x
-
--- "the next message goes on from it", and nothing else of the state changes
-unfoldable pub with_session : TagState → Session → TagState
-with_session t x = tag_of (face_of t) x

@@ -2,9 +2,11 @@
 // out by its doors. No public function has a `requires`.
 #![tactic(auto)]
 
+mod doors;
 mod reader;
 pub mod session;
 mod tag;
 
+pub use doors::State;
 pub use reader::ReaderState;
 pub use tag::TagState;

@@ -1,71 +1,34 @@
 // The reader's stored state.
 ghost use Rattle.std.specs.Prelude.{◌≡◌, cond};
 ghost use Rattle.faces.specs.declared.Stage.TheVariants.{Open, Step1Sent};
-ghost use Rattle.states.specs.ReaderStates.{reader_face_of, reader_secrets_of, reader_of, reader_sound, empty_reader_face, moved_face, reset_reader, closed_reader, begun_reader, filled_reader, opened_reader, with_reader_session};
+ghost use Rattle.states.specs.ReaderStates.{empty_reader_face, moved_face, reset_reader, closed_reader, begun_reader, filled_reader, opened_reader};
 
-use crate::session;
+use crate::{State, session};
 use faces::{ReaderFace, Stage};
 use grain::{Engine, Register, Session};
 
-// What a verdict may look at, and what it may not.
-#[derive(Clone, Copy)]
-pub struct ReaderState {
-    face: ReaderFace,
-    session: Session,
-}
+pub type ReaderState = State<ReaderFace>;
 
-impl ReaderState {
-    // A state of any parts: a call answers 8 where they are against the rules.
-    pub fn of(face: ReaderFace, session: Session) -> ReaderState
-        ensures { result ≡ reader_of face session }
-    {
-        ReaderState { face, session }
-    }
-
-    // Its public parts.
-    pub fn face(self) -> ReaderFace
-        ensures { result ≡ reader_face_of self }
-    {
-        let face = self.face;
-        face
-    }
-
-    // Its secret parts.
-    pub fn session(self) -> Session
-        ensures { result ≡ reader_secrets_of self }
-    {
-        let session = self.session;
-        session
-    }
-
-    // Whether it is one that no call answers with 8.
-    pub fn sound(self) -> bool
-        ensures { result ≡ reader_sound self }
-    {
-        let face = self.face;
-        let x = self.session;
-        let public = faces::reader::face_fits(face);
-        let bare = faces::reader::bare(face);
-        let secret = session::fits(bare, face.width, x);
-        public & secret
-    }
-
+impl State<ReaderFace> {
+    #[tactic(auto, unfolding(crate::specs::ReaderStates::reset_reader))]
     pub fn reset() -> ReaderState
         ensures { result ≡ reset_reader }
     {
         let face = empty(Stage::Idle);
         let session = session::empty();
-        ReaderState { face, session }
+        State::of(face, session)
     }
 
+    #[tactic(auto, unfolding(crate::specs::ReaderStates::closed_reader))]
     pub fn closed() -> ReaderState
         ensures { result ≡ closed_reader }
     {
         let face = empty(Stage::Closed);
         let session = session::empty();
-        ReaderState { face, session }
+        State::of(face, session)
     }
 
+    #[tactic(auto, unfolding(crate::specs::ReaderStates::begun_reader))]
     pub fn begun(method: u8, options: u8, keyid: u8, number: u64, key: Register) -> ReaderState
         ensures { result ≡ begun_reader method options keyid number key }
     {
@@ -80,34 +43,29 @@ impl ReaderState {
         let s = Register { first: 0, last: 0 };
         let engine = Engine { b: key, s };
         let session = session::unfilled(engine);
-        ReaderState { face, session }
+        State::of(face, session)
     }
 
     // The response to step 0 has filled the session: open, or else step 1 sent.
+    #[tactic(auto, unfolding(crate::specs::ReaderStates::filled_reader))]
     pub fn filled(self, opens: bool, session: Session) -> ReaderState
         ensures { result ≡ filled_reader opens self session }
     {
-        let f = self.face;
+        let f = self.face();
         let stage = filled_stage(opens);
         let width = payloads::mac_bits(f.options);
         let face = moved(stage, width, f);
-        ReaderState { face, session }
+        State::of(face, session)
     }
 
     // The response to step 1 opens it.
+    #[tactic(auto, unfolding(crate::specs::ReaderStates::opened_reader))]
     pub fn opened(self, session: Session) -> ReaderState
         ensures { result ≡ opened_reader self session }
     {
-        let f = self.face;
+        let f = self.face();
         let face = moved(Stage::Open, f.width, f);
-        ReaderState { face, session }
-    }
-
-    pub fn with_session(self, session: Session) -> ReaderState
-        ensures { result ≡ with_reader_session self session }
-    {
-        let face = self.face;
-        ReaderState { face, session }
+        State::of(face, session)
     }
 }
 
@@ -136,12 +94,5 @@ fn empty(stage: Stage) -> ReaderFace
 fn moved(stage: Stage, width: u8, f: ReaderFace) -> ReaderFace
     ensures { result ≡ moved_face stage width f }
 {
-    ReaderFace {
-        stage,
-        method: f.method,
-        options: f.options,
-        keyid: f.keyid,
-        number: f.number,
-        width,
-    }
+    ReaderFace { stage, width, ..f }
 }

@@ -10,8 +10,11 @@ use grain::{Engine, Method, Register, Session, Width};
 pub fn chosen_width(options: u8) -> Width
     ensures { result ≡ chosen_width options }
 {
-    let wide = (options >> 0) % 2 == 1;
-    if wide { Width::Mac64 } else { Width::Mac32 }
+    if options % 2 == 1 {
+        Width::Mac64
+    } else {
+        Width::Mac32
+    }
 }
 
 pub fn stored_width(width: u8) -> Width
@@ -33,6 +36,7 @@ pub fn key_in(key: &[u8]) -> Register
 }
 
 // The engine that a key and the two numbers start.
+#[tactic(auto, unfolding(crate::specs::Sessions::begun_engine))]
 pub fn begin(key: Register, method: u8, reader: u64, tag: u64) -> Engine
     ensures { result ≡ begun_engine key method reader tag }
 {
@@ -82,11 +86,7 @@ pub fn receive(x: Session, width: Width, secure: bool, bytes: &mut [u8], count: 
 pub fn with_engine(x: Session, engine: Engine) -> Session
     ensures { result ≡ with_engine x engine }
 {
-    Session {
-        engine,
-        acc: x.acc,
-        reg: x.reg,
-    }
+    Session { engine, ..x }
 }
 
 // Before accumulator and register are filled.
@@ -111,6 +111,7 @@ pub(crate) fn empty() -> Session
 
 // Whether a session fits a state of this width, which may hold nothing where it is bare. What must be zero is gathered in one word,
 // so that only `bare` and the width, which are public, choose.
+#[tactic(auto, using(crate::proofs::Sessions::both_zero), unfolding(crate::specs::Sessions::session_fits))]
 pub(crate) fn fits(bare: bool, width: u8, x: Session) -> bool
     ensures { result ≡ session_fits bare width x }
 {
@@ -132,6 +133,7 @@ fn above(x: u64, w: u8) -> u64
 }
 
 // What a bare state may not hold.
+#[tactic(auto, using(crate::proofs::Sessions::both_zero))]
 fn held(bare: bool, e: Engine) -> u64
     ensures { eqb result 0 ≡ (not bare || empty_engine e) }
 {

@@ -1,83 +1,47 @@
 // The tag's stored state.
 ghost use Rattle.std.specs.Prelude.{◌≡◌, cond};
-ghost use Rattle.states.specs.TagStates.{face_of, secrets_of, tag_of, sound_of, bare_face, open_face, open_by, reset_tag, closed_tag, failed_tag, begun_tag, open_tag, with_session};
+ghost use Rattle.states.specs.TagStates.{bare_face, open_face, open_by, reset_tag, closed_tag, failed_tag, begun_tag, open_tag};
 
-use crate::session;
+use crate::{State, session};
 use faces::{Face, Name};
 use grain::{Engine, Method, Session};
 
-// What a verdict may look at, and what it may not.
-#[derive(Clone, Copy)]
-pub struct TagState {
-    face: Face,
-    session: Session,
-}
+pub type TagState = State<Face>;
 
-impl TagState {
-    // A state of any parts: a call answers 8 where they are against the rules.
-    pub fn of(face: Face, session: Session) -> TagState
-        ensures { result ≡ tag_of face session }
-    {
-        TagState { face, session }
-    }
-
-    // Its public parts.
-    pub fn face(self) -> Face
-        ensures { result ≡ face_of self }
-    {
-        let face = self.face;
-        face
-    }
-
-    // Its secret parts.
-    pub fn session(self) -> Session
-        ensures { result ≡ secrets_of self }
-    {
-        let session = self.session;
-        session
-    }
-
-    // Whether it is one that no call answers with 8.
-    pub fn sound(self) -> bool
-        ensures { result ≡ sound_of self }
-    {
-        let face = self.face;
-        let x = self.session;
-        let public = faces::tag::face_fits(face);
-        let bare = faces::tag::bare(face);
-        let secret = session::fits(bare, face.width, x);
-        public & secret
-    }
-
+impl State<Face> {
+    #[tactic(auto, unfolding(crate::specs::TagStates::reset_tag))]
     pub fn reset() -> TagState
         ensures { result ≡ reset_tag }
     {
         let face = bare(Name::CsReset, false, false, false, false);
         let session = session::empty();
-        TagState { face, session }
+        State::of(face, session)
     }
 
+    #[tactic(auto, unfolding(crate::specs::TagStates::closed_tag))]
     pub fn closed(self) -> TagState
         ensures { result ≡ closed_tag self }
     {
-        let f = self.face;
+        let f = self.face();
         let name = f.name;
         let face = bare(name, f.init, f.ta, f.ia, true);
         let session = session::empty();
-        TagState { face, session }
+        State::of(face, session)
     }
 
     // After a failed comparison in step 1, of MA or else of IA.
+    #[tactic(auto, unfolding(crate::specs::TagStates::failed_tag))]
     pub fn failed(both: bool) -> TagState
         ensures { result ≡ failed_tag both }
     {
         let name = pick(both, Name::Ma2, Name::Ia2);
         let face = bare(name, true, false, false, true);
         let session = session::empty();
-        TagState { face, session }
+        State::of(face, session)
     }
 
     // After step 0 of MA, or else of IA.
+    #[tactic(auto, unfolding(crate::specs::TagStates::begun_tag))]
     pub fn begun(both: bool, keyid: u8, engine: Engine) -> TagState
         ensures { result ≡ begun_tag both keyid engine }
     {
@@ -93,22 +57,16 @@ impl TagState {
             width: 0,
         };
         let session = session::unfilled(engine);
-        TagState { face, session }
+        State::of(face, session)
     }
 
     // Once a method's authentication is done.
+    #[tactic(auto, unfolding(crate::specs::TagStates::open_tag))]
     pub fn opened(method: Method, keyid: u8, options: u8, session: Session) -> TagState
         ensures { result ≡ open_tag method keyid options session }
     {
         let face = open_by(method, keyid, options);
-        TagState { face, session }
-    }
-
-    pub fn with_session(self, session: Session) -> TagState
-        ensures { result ≡ with_session self session }
-    {
-        let face = self.face;
-        TagState { face, session }
+        State::of(face, session)
     }
 }
 

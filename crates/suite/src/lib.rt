@@ -3,49 +3,38 @@
 // call is refused for `verdicts` decides: whether the stored state is sound, and then `rules` on public parts; the rest is work.
 #![tactic(auto)]
 
-mod message;
-mod reader_work;
 mod tag_work;
+mod work;
 
 ghost use Rattle.std.specs.Prelude.{◌≡◌, length};
 ghost use Rattle.rules.specs.Results.{Gives};
 ghost use Rattle.states.specs.TagStates.{closed_tag};
 ghost use Rattle.machines.specs.TagWork.{reset_of, command_of, response_of, error_type_of};
 ghost use Rattle.machines.specs.ReaderWork.{reader_reset, begin_of, replied_of, sending_of, receiving_of};
-ghost use Rattle.suite.specs.Steps.{tag_step, reader_step};
+ghost use Rattle.suite.specs.Steps.{step_of};
 
 use rules::{Answer, Shown, ShownBegin};
 use states::{ReaderState, TagState};
 
-// A tag: its stored state, and its calls.
+// A machine: its stored state, and its calls.
 #[derive(Clone, Copy)]
-pub struct Tag {
-    pub state: TagState,
+pub struct Machine<S> {
+    pub state: S,
 }
 
-// What a tag's call gives: the tag after it, the answer, and how many bits the reply has.
+pub type Tag = Machine<TagState>;
+
+pub type Reader = Machine<ReaderState>;
+
+// What a call gives: the machine after it, the answer, and how many bits the reply has.
 #[derive(Clone, Copy)]
-pub struct Step {
-    pub next: Tag,
+pub struct Step<S> {
+    pub next: Machine<S>,
     pub answer: Answer,
     pub bits: usize,
 }
 
-// A reader: its stored state, and its calls.
-#[derive(Clone, Copy)]
-pub struct Reader {
-    pub state: ReaderState,
-}
-
-// What a reader's call gives.
-#[derive(Clone, Copy)]
-pub struct ReaderStep {
-    pub next: Reader,
-    pub answer: Answer,
-    pub bits: usize,
-}
-
-impl Tag {
+impl Machine<TagState> {
     // A call with a shorter reply buffer is refused with 2.
     pub const REPLY_BYTES: usize = bits::AREA_BYTES;
 
@@ -56,10 +45,10 @@ impl Tag {
     pub const NUMBER_LIMIT: u64 = payloads::NUMBER_LIMIT;
 
     // The tag after a reset. It is never refused, and zeroes the reply area, however short.
-    pub fn reset(reply: &mut [u8]) -> Step
-        ensures { Gives tag_step reset_of result reply.old reply.new }
+    pub fn reset(reply: &mut [u8]) -> Step<TagState>
+        ensures { Gives step_of reset_of result reply.old reply.new }
     {
-        tag_work::left(TagState::reset(), Answer::Done, reply)
+        work::left(TagState::reset(), Answer::Done, reply)
     }
 
     // A command: `kind` 0 authentication, 1 comm, 2 secure, 3 key update; the first `count` bits of `payload`; the tag's features,
@@ -73,8 +62,8 @@ impl Tag {
         book: &[u8],
         number: u64,
         reply: &mut [u8],
-    ) -> Step
-        ensures { Gives tag_step
+    ) -> Step<TagState>
+        ensures { Gives step_of
             (command_of self.state (record { kind = kind; payload = payload.now; count = count; features = features; book = book.now; number = number }) (length reply.old))
             result reply.old reply.new }
     {
@@ -98,14 +87,14 @@ impl Tag {
     }
 
     // A response that the host wants: `kind` 4 comm, 5 secure; the first `count` bits of `data`.
-    pub fn response(self, kind: u8, data: &[u8], count: usize, reply: &mut [u8]) -> Step
-        ensures { Gives tag_step (response_of self.state (record { kind = kind; payload = «data».now; count = count }) (length reply.old))
+    pub fn response(self, kind: u8, data: &[u8], count: usize, reply: &mut [u8]) -> Step<TagState>
+        ensures { Gives step_of (response_of self.state (record { kind = kind; payload = «data».now; count = count }) (length reply.old))
             result reply.old reply.new }
     {
         let t = self.state;
         match verdicts::tag::response(t, kind, data, count, reply.len()) {
-            Err(refused) => tag_work::refuse(t, refused.closes, refused.answer, reply),
-            Ok(()) => tag_work::send(t, kind, data, count, reply),
+            Err(refused) => work::refuse(t, refused.closes, refused.answer, reply),
+            Ok(()) => work::send(t, kind == 5, data, count, reply),
         }
     }
 
@@ -115,7 +104,7 @@ impl Tag {
     {
         let t = self.state;
         let state = t.closed();
-        Tag { state }
+        Machine { state }
     }
 
     // The error type of Annex B's table: 1, 2 or 3; 0 where there is no error, or the state is against the rules.
@@ -131,12 +120,12 @@ impl Tag {
     }
 }
 
-impl Reader {
+impl Machine<ReaderState> {
     // The reader after a reset. It is never refused, and zeroes the reply area, however short.
-    pub fn reset(reply: &mut [u8]) -> ReaderStep
-        ensures { Gives reader_step reader_reset result reply.old reply.new }
+    pub fn reset(reply: &mut [u8]) -> Step<ReaderState>
+        ensures { Gives step_of reader_reset result reply.old reply.new }
     {
-        reader_work::left(ReaderState::reset(), Answer::Done, reply)
+        work::left(ReaderState::reset(), Answer::Done, reply)
     }
 
     // Begins an authentication with the reader's `number`; the reply is the step 0 command.
@@ -148,8 +137,8 @@ impl Reader {
         number: u64,
         book: &[u8],
         reply: &mut [u8],
-    ) -> ReaderStep
-        ensures { Gives reader_step (begin_of self.state (record { method = method; options = options; keyid = keyid; number = number; book = book.now }) (length reply.old))
+    ) -> Step<ReaderState>
+        ensures { Gives step_of (begin_of self.state (record { method = method; options = options; keyid = keyid; number = number; book = book.now }) (length reply.old))
             result reply.old reply.new }
     {
         let t = self.state;
@@ -163,52 +152,58 @@ impl Reader {
             room: reply.len(),
         };
         match verdicts::reader::begin(t, shown) {
-            Err(refused) => reader_work::refuse(t, refused.closes, refused.answer, reply),
+            Err(refused) => work::refuse(t, refused.closes, refused.answer, reply),
             Ok(()) => {
                 let key = key.unwrap_or(b"");
                 let o = authentication::reader::begin(method, options, keyid, number, key);
-                reader_work::say(o, reply)
+                work::say(o, reply)
             }
         }
     }
 
     // The tag's authentication response; the reply is the step 1 command, or nothing where the session is open.
-    pub fn replied(self, payload: &[u8], count: usize, reply: &mut [u8]) -> ReaderStep
-        ensures { Gives reader_step (replied_of self.state payload.now count (length reply.old))
+    pub fn replied(self, payload: &[u8], count: usize, reply: &mut [u8]) -> Step<ReaderState>
+        ensures { Gives step_of (replied_of self.state payload.now count (length reply.old))
             result reply.old reply.new }
     {
         let t = self.state;
         let shown = rules::reader::reply_shown(payload, count, reply.len());
         match verdicts::reader::replied(t, shown) {
-            Err(refused) => reader_work::refuse(t, refused.closes, refused.answer, reply),
+            Err(refused) => work::refuse(t, refused.closes, refused.answer, reply),
             Ok(()) => {
                 let o = authentication::reader::answer(t, shown.status, payload);
-                reader_work::say(o, reply)
+                work::say(o, reply)
             }
         }
     }
 
     // Sends the first `count` bits of `data`: `kind` 1 comm, 2 secure; the reply is the message.
-    pub fn send(self, kind: u8, data: &[u8], count: usize, reply: &mut [u8]) -> ReaderStep
-        ensures { Gives reader_step (sending_of self.state (record { kind = kind; payload = «data».now; count = count }) (length reply.old))
+    pub fn send(self, kind: u8, data: &[u8], count: usize, reply: &mut [u8]) -> Step<ReaderState>
+        ensures { Gives step_of (sending_of self.state (record { kind = kind; payload = «data».now; count = count }) (length reply.old))
             result reply.old reply.new }
     {
         let t = self.state;
         match verdicts::reader::send(t, kind, data, count, reply.len()) {
-            Err(refused) => reader_work::refuse(t, refused.closes, refused.answer, reply),
-            Ok(()) => reader_work::send(t, kind, data, count, reply),
+            Err(refused) => work::refuse(t, refused.closes, refused.answer, reply),
+            Ok(()) => work::send(t, kind == 2, data, count, reply),
         }
     }
 
     // Takes a message of the tag's in: `kind` 1 comm, 2 secure; the reply is its data.
-    pub fn receive(self, kind: u8, payload: &[u8], count: usize, reply: &mut [u8]) -> ReaderStep
-        ensures { Gives reader_step (receiving_of self.state (record { kind = kind; payload = payload.now; count = count }) (length reply.old))
+    pub fn receive(
+        self,
+        kind: u8,
+        payload: &[u8],
+        count: usize,
+        reply: &mut [u8],
+    ) -> Step<ReaderState>
+        ensures { Gives step_of (receiving_of self.state (record { kind = kind; payload = payload.now; count = count }) (length reply.old))
             result reply.old reply.new }
     {
         let t = self.state;
         match verdicts::reader::receive(t, kind, payload, count, reply.len()) {
-            Err(refused) => reader_work::refuse(t, refused.closes, refused.answer, reply),
-            Ok(()) => reader_work::receive(t, kind, payload, count, reply),
+            Err(refused) => work::refuse(t, refused.closes, refused.answer, reply),
+            Ok(()) => work::receive(t, kind == 2, payload, count, reply),
         }
     }
 }

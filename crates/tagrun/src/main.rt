@@ -5,6 +5,7 @@ ghost use Rattle.std.specs.Prelude.{◌≤◌, length};
 
 use faces::Name;
 use frames::Refusal;
+use states::TagState;
 use std::io::Read;
 use suite::{Step, Tag};
 use text::Line;
@@ -110,7 +111,7 @@ fn print_refusal(rt: &impl Print, number: u64, why: Refusal) {
 }
 
 // Frame number, answer, state, reply bits, reply.
-fn print_step(rt: &impl Print, number: u64, step: Step, reply: &[u8]) {
+fn print_step(rt: &impl Print, number: u64, step: Step<TagState>, reply: &[u8]) {
     let mut line = Line::new();
     line.spaced(number);
     line.spaced(u64::from(u8::from(step.answer)));

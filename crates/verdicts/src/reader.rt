@@ -1,4 +1,6 @@
 // The reader's verdicts.
+#![tactic(auto, unfolding(states::specs::ReaderStates::reader_sound))]
+
 ghost use Rattle.std.specs.Prelude.{◌≡◌};
 ghost use Rattle.machines.specs.ReaderWork.{begin_judged, reply_judged, send_judged, receive_judged};
 

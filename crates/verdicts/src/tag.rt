@@ -1,4 +1,6 @@
 // The tag's verdicts.
+#![tactic(auto, unfolding(states::specs::TagStates::sound_of))]
+
 ghost use Rattle.std.specs.Prelude.{◌≡◌};
 ghost use Rattle.machines.specs.TagWork.{command_judged, response_judged};
 

@@ -2,10 +2,9 @@
 use mathlib.Core.Path.{◌≡◌, sym}
 use Prim.Native.Nat.{ℕ}
 use Rattle.faces.specs.declared.ReaderFace.{ReaderFace}
-use Rattle.states.specs.declared.reader.ReaderState.{ReaderState}
 use Rattle.machines.specs.ReaderWork.{matched, answered_by}
 use Rattle.rules.specs.ReaderRules.{reply_work}
-use Rattle.states.specs.ReaderStates.{reader_face_of}
+use Rattle.states.specs.ReaderStates.{ReaderState, reader_face_of}
 use Rattle.rules.specs.declared.ReplyWork.{ReplyWork}
 use Rattle.authentication.proofs.reader.answer.Goals as goal
 

@@ -1,4 +1,5 @@
 -- `states::session::receive` meets its contract. Bits that are not secured stay as they are.
+use Rattle.std.proofs.Common.{rules}
 use mathlib.Core.Path.{sym}
 use Rattle.states.specs.Sessions.{after_message, data_of}
 use Rattle.bits.proofs.Replies.{put_back}
@@ -12,4 +13,4 @@ pub returns : goal.returns
 unfolding after_message data_of
 returns c =
     let a = c.args in
-    rw c.if-secure.false (c.authenticate.ensures, sym (put_back a.count a.bytes.now c.slice_known-1.given))
+    rw c.if-secure.false (c.authenticate.ensures, sym (put_back a.count a.bytes.now (search rules)))

@@ -5,8 +5,8 @@ use Rattle.rules.proofs.Verdicts.{sound_goes}
 use Rattle.machines.specs.TagWork.{carried_of}
 use Rattle.suite.proofs.tag_work.carry.Goals as goal
 
-pub work-requires : goal.work-requires
-work-requires c =
+pub worked-requires : goal.worked-requires
+worked-requires c =
     let p = c.requires in
     let g = sound_goes _ _ (sym c.command.ensures ∙ c.in-Ok.is) in
     (g.0, (p.0, (p.1, g.1)))
@@ -19,4 +19,4 @@ returns-in-Err c =
 pub returns-in-Ok : goal.returns-in-Ok
 unfolding carried_of decided
 returns-in-Ok c =
-    rw (sym c.command.ensures ∙ c.in-Ok.is) c.work.ensures
+    rw (sym c.command.ensures ∙ c.in-Ok.is) c.worked.ensures

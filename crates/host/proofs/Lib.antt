@@ -1,2 +1,0 @@
--- The laws that proofs here cite.
-mod Running
