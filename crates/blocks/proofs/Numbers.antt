@@ -1,18 +1,21 @@
 -- A block's parts: a number's eight bytes, and what is filled by parts in turn. Assumes nothing.
-use mathlib.Core.Path.{◌≡◌, sym, ap, ap₂, ◌∙◌}
+use mathlib.Core.Path.{◌≡◌, refl, sym, ap, ap₂, ◌∙◌}
 use mathlib.Core.Bool.{Bool}
-use mathlib.Core.List.{List, [], ◌∷◌, ◌++◌, append-nil}
-use Prim.Native.Nat.{ℕ, zero, suc, ◌+◌, ◌-◌, ◌*◌, ◌/◌, ◌%◌, ◌^◌, ◌<◌}
+use mathlib.Core.List.{List, [], ◌∷◌, ◌++◌, append_assoc, append-nil}
+use Prim.Native.Nat.{ℕ, zero, suc, ◌+◌, ◌*◌, ◌≤◌}
 use native.Mathlib.Nat.{zero-add}
-use native.Mathlib.Numerals.{add-one}
 use native.Mathlib.Omega.{arith}
-use lib.ListN.{length, get_or, drop, set, length-append}
+use lib.ListN.{length, get_or, take, drop, length-append}
 use lib.Seq.{drop_at, drop-drop, drop-nil, drop-length, sets, sets-eq}
+use borrow.Rule.Slice.PartMut.{put_mid}
+use mir.Syntax.{w64}
 use mir.Val.{bool_byte}
+use Rattle.std.specs.Int.{to_be_bytes, from_be_bytes}
+use Rattle.std.proofs.lemmas.Nat.{be_bytes_8}
 use Rattle.bits.specs.Bits.{bits_of, num_of}
 use Rattle.bits.specs.Bytes.{bits_of_bytes, bytes_of, padded, field_of}
-use Rattle.bits.proofs.Numbers.{length-bits_of, bits_of-append, num_of-bits, num_of-bits_of, num_of-append, num_of-zeros}
-use Rattle.bits.proofs.Bytes.{Octets, length-padded, padded-add, padded_at, padded-nil, length-bytes_of, bytes_of_snoc}
+use Rattle.bits.proofs.Numbers.{length-bits_of, num_of-bits, num_of-append, num_of-zeros, num_of-lt}
+use Rattle.bits.proofs.Bytes.{Octets, length-padded, padded-add, padded_at, padded-nil, field-none, field_back, length-bits_of_bytes, length-bytes_of, bits-append, bits_back}
 use Rattle.bits.proofs.Words.{byte-num}
 use Rattle.bits.proofs.Lists.{sets-append}
 use Rattle.grain.specs.declared.Session.{Session}
@@ -20,7 +23,7 @@ use Rattle.faces.specs.declared.Face.{Face}
 use Rattle.faces.specs.declared.ReaderFace.{ReaderFace}
 use Rattle.faces.specs.TagFaces.{name_number}
 use Rattle.faces.specs.ReaderFaces.{stage_number}
-use Rattle.blocks.specs.Blocks.{number_bytes, session_bytes, tag_bytes, tag_head, reader_bytes, reader_head}
+use Rattle.blocks.specs.Blocks.{number_at, number_bytes, Word, session_bytes, tag_bytes, tag_head, reader_bytes, reader_head}
 
 -- a byte is the field of its eight bits
 byte-field : (m : List ℕ) (i : ℕ) → Octets m → num_of (padded 8 (drop (8 * i) (bits_of_bytes m))) ≡ get_or m i 0
@@ -32,7 +35,7 @@ byte-field (x ∷ m) (suc i) h =
     rw (e, ← drop-drop (8 * i) 8 (bits_of 8 x ++ bits_of_bytes m), drop_at (bits_of 8 x) (bits_of_bytes m) 8 (length-bits_of 8 x)) (byte-field m i (λ j. h (suc j)))
 
 -- a number with one byte more
-pub field-byte : (m : List ℕ) (at k : ℕ) → Octets m → field_of (8 * at) (8 * (k + 1)) (bits_of_bytes m) ≡ field_of (8 * at) (8 * k) (bits_of_bytes m) * 256 + get_or m (at + k) 0
+field-byte : (m : List ℕ) (at k : ℕ) → Octets m → field_of (8 * at) (8 * (k + 1)) (bits_of_bytes m) ≡ field_of (8 * at) (8 * k) (bits_of_bytes m) * 256 + get_or m (at + k) 0
 unfolding field_of
 field-byte m at k h =
     let l : List Bool = drop (8 * at) (bits_of_bytes m) in
@@ -40,23 +43,54 @@ field-byte m at k h =
     let f : 8 * at + 8 * k ≡ 8 * (at + k) = omega arith in
     rw (e, padded-add (8 * k) 8 l, num_of-append, length-padded, drop-drop (8 * k) (8 * at) (bits_of_bytes m), f, byte-field m (at + k) h)
 
--- byte k of a number
-byte_of : (x k : ℕ) → k < 8 → num_of (padded 8 (drop (8 * k) (bits_of 64 x))) ≡ x / 2 ^ (56 - 8 * k) % 2 ^ 8
-byte_of x k h =
-    let r : ℕ = 56 - 8 * k in
-    let e : 64 ≡ 8 * k + (8 + r) = omega arith in
-    rw (e, bits_of-append (8 * k) (8 + r) x, drop_at (bits_of (8 * k) (x / 2 ^ (8 + r))) (bits_of (8 + r) x) (8 * k) (length-bits_of _ _), bits_of-append 8 r x, padded_at (bits_of 8 (x / 2 ^ r)) (bits_of r x) 8 (length-bits_of _ _))
-    (num_of-bits_of 8 (x / 2 ^ r))
-
--- one byte more is put
-pub put_turn : (l : List ℕ) (at x k b : ℕ) → k < 8 → b ≡ x / 2 ^ (56 - 8 * k) % 2 ^ 8
-    → set (sets l at (bytes_of k (bits_of 64 x))) (at + k) b ≡ sets l at (bytes_of (k + 1) (bits_of 64 x))
-put_turn l at x k b h e =
-    rw (add-one k, bytes_of_snoc k (bits_of 64 x), sets-append, length-bytes_of, e, byte_of x k h)
+-- the eight bytes from a place on are the number there, the highest first
+pub number-read : (m ys : List ℕ) (at : ℕ) → Octets m
+    → get_or ys 0 0 ≡ get_or m (at + 0) 0 → get_or ys 1 0 ≡ get_or m (at + 1) 0 → get_or ys 2 0 ≡ get_or m (at + 2) 0 → get_or ys 3 0 ≡ get_or m (at + 3) 0
+    → get_or ys 4 0 ≡ get_or m (at + 4) 0 → get_or ys 5 0 ≡ get_or m (at + 5) 0 → get_or ys 6 0 ≡ get_or m (at + 6) 0 → get_or ys 7 0 ≡ get_or m (at + 7) 0
+    → from_be_bytes w64 ys ≡ number_at at m
+unfolding number_at
+number-read m ys at h a b c d e f g i =
+    let begun : field_of (8 * at) 0 (bits_of_bytes m) ≡ 0 = field-none (8 * at) (bits_of_bytes m) in
+    omega (
+      arith, begun,
+      field-byte m at 0 h, field-byte m at 1 h, field-byte m at 2 h, field-byte m at 3 h,
+      field-byte m at 4 h, field-byte m at 5 h, field-byte m at 6 h, field-byte m at 7 h,
+    )
 
 pub length-number : (n : ℕ) → length (number_bytes n) ≡ 8
 unfolding number_bytes
 length-number n = length-bytes_of 8 (bits_of 64 n)
+
+-- a number is read where it was put, whatever stands before and after it
+pub number_back : (p q : List ℕ) (at n : ℕ) → length p ≡ at → Word n → number_at at (p ++ (number_bytes n ++ q)) ≡ n
+unfolding number_at number_bytes
+number_back p q at n e h =
+    rw (bits-append p (bytes_of 8 (bits_of 64 n) ++ q), bits-append (bytes_of 8 (bits_of 64 n)) q, bits_back 8 (bits_of 64 n) (length-bits_of 64 n))
+    (field_back (bits_of_bytes p) (bits_of_bytes q) (8 * at) 64 n (length-bits_of_bytes p ∙ ap (λ (k : ℕ). 8 * k) e) h)
+
+-- what is filled with bits is bytes
+octets_of : (n : ℕ) (l : List Bool) → Octets (bytes_of n l)
+unfolding bytes_of
+octets_of zero l i = record { fits = omega arith }
+octets_of (suc n) l zero = record { fits = rw (length-padded 8 l) at (num_of-lt (padded 8 l)) }
+octets_of (suc n) l (suc i) = octets_of n (drop 8 l) i
+
+-- so its bytes are those that Rust puts, the highest first
+pub number-put : (n : ℕ) → Word n → to_be_bytes w64 n ≡ number_bytes n
+unfolding number_bytes
+number-put n h =
+    let b : List ℕ = number_bytes n in
+    let o : Octets b = octets_of 8 (bits_of 64 n) in
+    let read : from_be_bytes w64 b ≡ n =
+        number-read b b 0 o refl refl refl refl refl refl refl refl ∙ ap (number_at 0) (sym (append-nil b)) ∙ number_back [] [] 0 n refl h
+    in
+    be_bytes_8 b n (length-number n) (λ i. (o i).fits) (sym read)
+
+-- a run of stores, as it is copied into a part of a list
+pub run-copied : (l vs : List ℕ) (at k : ℕ) → length vs ≡ k → at + k ≤ length l → put_mid at k l vs ≡ sets l at vs
+run-copied l vs at k e h =
+    let fits : at + length vs ≤ length l = omega (arith, e) in
+    rw (sets-eq vs l at fits, e, drop-drop k at l) (sym (append_assoc (take at l) vs (drop (at + k) l)))
 
 -- two runs that fill a list are the list
 pub sets-whole : (l p q : List ℕ) → length l ≡ length p + length q → sets (sets l 0 p) (length p) q ≡ p ++ q

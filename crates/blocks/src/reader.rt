@@ -48,14 +48,16 @@ pub fn store(block: &mut [u8], reader: ReaderState)
     let stage = face.stage;
     parts::put_head(
         block,
-        stage.number(),
-        face.method,
-        face.options,
-        face.keyid,
-        face.width,
-        0,
-        0,
-        0,
+        [
+            stage.number(),
+            face.method,
+            face.options,
+            face.keyid,
+            face.width,
+            0,
+            0,
+            0,
+        ],
     );
     let session = reader.session();
     parts::put_session(block, session);

@@ -51,14 +51,16 @@ pub fn store(block: &mut [u8], tag: TagState)
     let name = face.name;
     parts::put_head(
         block,
-        name.number(),
-        face.init as u8,
-        face.ta as u8,
-        face.ia as u8,
-        face.error as u8,
-        face.keyid,
-        face.options,
-        face.width,
+        [
+            name.number(),
+            face.init as u8,
+            face.ta as u8,
+            face.ia as u8,
+            face.error as u8,
+            face.keyid,
+            face.options,
+            face.width,
+        ],
     );
     let session = tag.session();
     parts::put_session(block, session);
