@@ -92,19 +92,11 @@ run-copied l vs at k e h =
     let fits : at + length vs ≤ length l = omega (arith, e) in
     rw (sets-eq vs l at fits, e, drop-drop k at l) (sym (append_assoc (take at l) vs (drop (at + k) l)))
 
--- two runs that fill a list are the list
-pub sets-whole : (l p q : List ℕ) → length l ≡ length p + length q → sets (sets l 0 p) (length p) q ≡ p ++ q
-sets-whole l p q e =
-    let n : length (p ++ q) ≡ length l = length-append p q ∙ sym e in
-    let k : 0 + length p ≡ length p = zero-add (length p) in
-    ap (λ (i : ℕ). sets (sets l 0 p) i q) (sym k) ∙ sym (sets-append l 0 p q) ∙ sets-eq (p ++ q) l 0 (omega (arith, n))
-    ∙ ap (λ (t : List ℕ). (p ++ q) ++ t) (ap (λ (i : ℕ). drop i l) (zero-add (length (p ++ q)) ∙ n) ∙ drop-length l) ∙ append-nil (p ++ q)
-
--- a session's six numbers, one after the other
-pub session-runs : (l : List ℕ) (a b c d e f : ℕ)
-    → sets (sets (sets (sets (sets (sets l 8 (number_bytes a)) 16 (number_bytes b)) 24 (number_bytes c)) 32 (number_bytes d)) 40 (number_bytes e)) 48 (number_bytes f)
-    ≡ sets l 8 (number_bytes a ++ (number_bytes b ++ (number_bytes c ++ (number_bytes d ++ (number_bytes e ++ number_bytes f)))))
-session-runs l a b c d e f = simp (sets-append, length-number)
+-- a run that fills a list is the list
+sets-all : (l p : List ℕ) → length l ≡ length p → sets l 0 p ≡ p
+sets-all l p e =
+    let k : 0 + length p ≡ length l = zero-add (length p) ∙ sym e in
+    sets-eq p l 0 (omega (arith, e)) ∙ ap (λ (t : List ℕ). p ++ t) (ap (λ (i : ℕ). drop i l) k ∙ drop-length l) ∙ append-nil p
 
 pub length-session : (x : Session) → length (session_bytes x) ≡ 48
 unfolding session_bytes
@@ -112,25 +104,27 @@ length-session x = simp (length-append, length-number)
 
 -- ---- a block is filled by its parts in turn
 
-pub tag-put : (l x y : List ℕ) (f : Face) (s : Session) (n : ℕ) → length l ≡ tag_bytes → n ≡ name_number f.name
-    → x ≡ sets l 0 (n ∷ bool_byte f.init ∷ bool_byte f.ta ∷ bool_byte f.ia ∷ bool_byte f.error ∷ f.keyid ∷ f.options ∷ f.width ∷ [])
-    → y ≡ sets x 8 (session_bytes s) → y ≡ tag_head f ++ session_bytes s
-tag-put l x y f s n size named first then =
-    let h : x ≡ sets l 0 (tag_head f) = rw (named, byte-num, byte-num, byte-num, byte-num) at first in
-    then ∙ ap (λ (m : List ℕ). sets m 8 (session_bytes s)) h
-    ∙ sets-whole l (tag_head f) (session_bytes s) (size ∙ ap (λ (k : ℕ). 8 + k) (sym (length-session s)))
+-- the head, and a session's six numbers, one after the other
+pub front-put : (l h : List ℕ) (a b c d e f : ℕ) → length h ≡ 8 → 8 ≤ length l
+    → sets (sets (sets (sets (sets (sets (h ++ drop 8 l) 8 (number_bytes a)) 16 (number_bytes b)) 24 (number_bytes c)) 32 (number_bytes d)) 40 (number_bytes e)) 48 (number_bytes f)
+    ≡ sets l 0 (h ++ (number_bytes a ++ (number_bytes b ++ (number_bytes c ++ (number_bytes d ++ (number_bytes e ++ number_bytes f))))))
+front-put l h a b c d e f k s = rw (run-copied l h 0 8 k s) (simp (sets-append, length-number, k))
 
-pub reader-put : (l x y z : List ℕ) (f : ReaderFace) (s : Session) (n : ℕ) → length l ≡ reader_bytes → n ≡ stage_number f.stage
-    → x ≡ sets l 0 (n ∷ f.method ∷ f.options ∷ f.keyid ∷ f.width ∷ 0 ∷ 0 ∷ 0 ∷ [])
-    → y ≡ sets x 8 (session_bytes s) → z ≡ sets y 56 (number_bytes f.number)
-    → z ≡ reader_head f ++ (session_bytes s ++ number_bytes f.number)
-reader-put l x y z f s n size named first then last =
-    let p : List ℕ = reader_head f in
-    let b : List ℕ = session_bytes s in
+pub tag-put : (l x : List ℕ) (f : Face) (s : Session) (n : ℕ) → length l ≡ tag_bytes → n ≡ name_number f.name
+    → x ≡ sets l 0 (n ∷ bool_byte f.init ∷ bool_byte f.ta ∷ bool_byte f.ia ∷ bool_byte f.error ∷ f.keyid ∷ f.options ∷ f.width ∷ session_bytes s)
+    → x ≡ tag_head f ++ session_bytes s
+tag-put l x f s n size named front =
+    let h : x ≡ sets l 0 (tag_head f ++ session_bytes s) = rw (named, byte-num, byte-num, byte-num, byte-num) at front in
+    h ∙ sets-all l (tag_head f ++ session_bytes s) (rw (length-session s) size)
+
+pub reader-put : (l x y : List ℕ) (f : ReaderFace) (s : Session) (n : ℕ) → length l ≡ reader_bytes → n ≡ stage_number f.stage
+    → x ≡ sets l 0 (n ∷ f.method ∷ f.options ∷ f.keyid ∷ f.width ∷ 0 ∷ 0 ∷ 0 ∷ session_bytes s) → y ≡ sets x 56 (number_bytes f.number)
+    → y ≡ reader_head f ++ (session_bytes s ++ number_bytes f.number)
+reader-put l x y f s n size named front last =
+    let p : List ℕ = reader_head f ++ session_bytes s in
     let m : List ℕ = number_bytes f.number in
-    let h : x ≡ sets l 0 p = rw named at first in
-    let k : 8 + length b ≡ 56 = ap (λ (i : ℕ). 8 + i) (length-session s) in
-    let w : length (b ++ m) ≡ 56 = length-append b m ∙ ap₂ (λ (i j : ℕ). i + j) (length-session s) (length-number f.number) in
-    last ∙ ap (λ (t : List ℕ). sets t 56 m) (then ∙ ap (λ (t : List ℕ). sets t 8 b) h)
-    ∙ ap (λ (i : ℕ). sets (sets (sets l 0 p) 8 b) i m) (sym k) ∙ sym (sets-append (sets l 0 p) 8 b m)
-    ∙ sets-whole l p (b ++ m) (size ∙ ap (λ (i : ℕ). 8 + i) (sym w))
+    let k : length p ≡ 56 = rw (length-session s) in
+    let h : x ≡ sets l 0 p = rw named at front in
+    let w : length (p ++ m) ≡ 64 = length-append p m ∙ ap₂ (λ (i j : ℕ). i + j) k (length-number f.number) in
+    last ∙ ap₂ (λ (t : List ℕ) (i : ℕ). sets t i m) h (sym k ∙ sym (zero-add (length p))) ∙ sym (sets-append l 0 p m)
+    ∙ sets-all l (p ++ m) (size ∙ sym w)

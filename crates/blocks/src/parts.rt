@@ -1,5 +1,5 @@
-// What both blocks are made of: numbers of eight bytes, the head's eight bytes, and the session.
-ghost use Rattle.std.specs.Prelude.{◌≡◌, ◌+◌, ◌≤◌, ◌<◌, eqb, ltb, length};
+// What both blocks are made of: bytes, numbers of eight bytes, and head and session.
+ghost use Rattle.std.specs.Prelude.{◌≡◌, ◌++◌, ◌+◌, ◌≤◌, ◌<◌, eqb, ltb, length};
 ghost use Rattle.std.proofs.lemmas.List.Edits.{sets};
 ghost use Rattle.blocks.specs.Blocks.{byte_at, number_at, number_bytes, session_in, session_bytes};
 
@@ -19,13 +19,6 @@ pub(crate) fn small(block: &[u8], i: usize, limit: u8) -> bool
     ensures { result ≡ ltb (byte_at i block.now) limit }
 {
     bits::byte_at(block, i) < limit
-}
-
-pub(crate) fn put_head(block: &mut [u8], head: [u8; 8])
-    requires { 8 ≤ length block.old }
-    ensures { block.new ≡ sets block.old 0 head }
-{
-    block[..8].copy_from_slice(&head);
 }
 
 // ---- numbers
@@ -66,13 +59,15 @@ pub(crate) fn session(block: &[u8]) -> Session
     }
 }
 
-pub(crate) fn put_session(block: &mut [u8], session: Session)
+// What both blocks begin with: the eight bytes of the head, and the session.
+pub(crate) fn put_front(block: &mut [u8], head: [u8; 8], session: Session)
     requires { 56 ≤ length block.old }
-    ensures { block.new ≡ sets block.old 8 (session_bytes session) }
+    ensures { block.new ≡ sets block.old 0 (head ++ session_bytes session) }
 {
     let engine = session.engine;
     let b = engine.b;
     let s = engine.s;
+    block[..8].copy_from_slice(&head);
     put_number(block, 8, b.first);
     put_number(block, 16, b.last);
     put_number(block, 24, s.first);

@@ -1,6 +1,6 @@
--- `blocks::reader::read` meets its contract.
+-- `blocks::reader::ReaderStateBlock::read` meets its contract.
 use Rattle.blocks.specs.Blocks.{reader_in}
-use Rattle.blocks.proofs.reader.read.Goals as goal
+use Rattle.blocks.proofs.reader.ReaderStateBlock.read.Goals as goal
 
 pub returns : goal.returns
 unfolding reader_in

@@ -1,6 +1,6 @@
--- `blocks::tag::read` meets its contract.
+-- `blocks::tag::TagStateBlock::read` meets its contract.
 use Rattle.blocks.specs.Blocks.{tag_in}
-use Rattle.blocks.proofs.tag.read.Goals as goal
+use Rattle.blocks.proofs.tag.TagStateBlock.read.Goals as goal
 
 pub returns : goal.returns
 unfolding tag_in
