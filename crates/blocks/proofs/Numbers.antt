@@ -44,17 +44,24 @@ field-byte m at k h =
     rw (e, padded-add (8 * k) 8 l, num_of-append, length-padded, drop-drop (8 * k) (8 * at) (bits_of_bytes m), f, byte-field m (at + k) h)
 
 -- the eight bytes from a place on are the number there, the highest first
-pub number-read : (m ys : List ℕ) (at : ℕ) → Octets m
+pub number_read : (m ys : List ℕ) (at : ℕ) → Octets m
     → get_or ys 0 0 ≡ get_or m (at + 0) 0 → get_or ys 1 0 ≡ get_or m (at + 1) 0 → get_or ys 2 0 ≡ get_or m (at + 2) 0 → get_or ys 3 0 ≡ get_or m (at + 3) 0
     → get_or ys 4 0 ≡ get_or m (at + 4) 0 → get_or ys 5 0 ≡ get_or m (at + 5) 0 → get_or ys 6 0 ≡ get_or m (at + 6) 0 → get_or ys 7 0 ≡ get_or m (at + 7) 0
     → from_be_bytes w64 ys ≡ number_at at m
 unfolding number_at
-number-read m ys at h a b c d e f g i =
+number_read m ys at h a b c d e f g i =
     let begun : field_of (8 * at) 0 (bits_of_bytes m) ≡ 0 = field-none (8 * at) (bits_of_bytes m) in
     omega (
-      arith, begun,
-      field-byte m at 0 h, field-byte m at 1 h, field-byte m at 2 h, field-byte m at 3 h,
-      field-byte m at 4 h, field-byte m at 5 h, field-byte m at 6 h, field-byte m at 7 h,
+      arith,
+      begun,
+      field-byte m at 0 h,
+      field-byte m at 1 h,
+      field-byte m at 2 h,
+      field-byte m at 3 h,
+      field-byte m at 4 h,
+      field-byte m at 5 h,
+      field-byte m at 6 h,
+      field-byte m at 7 h,
     )
 
 pub length-number : (n : ℕ) → length (number_bytes n) ≡ 8
@@ -75,20 +82,22 @@ octets_of zero l i = record { fits = omega arith }
 octets_of (suc n) l zero = record { fits = rw (length-padded 8 l) at (num_of-lt (padded 8 l)) }
 octets_of (suc n) l (suc i) = octets_of n (drop 8 l) i
 
--- so its bytes are those that Rust puts, the highest first
-pub number-put : (n : ℕ) → Word n → to_be_bytes w64 n ≡ number_bytes n
+-- so its bytes are those that Rust reads
+bytes_read : (n : ℕ) → Word n → from_be_bytes w64 (number_bytes n) ≡ n
 unfolding number_bytes
-number-put n h =
+bytes_read n h =
     let b : List ℕ = number_bytes n in
-    let o : Octets b = octets_of 8 (bits_of 64 n) in
-    let read : from_be_bytes w64 b ≡ n =
-        number-read b b 0 o refl refl refl refl refl refl refl refl ∙ ap (number_at 0) (sym (append-nil b)) ∙ number_back [] [] 0 n refl h
-    in
-    be_bytes_8 b n (length-number n) (λ i. (o i).fits) (sym read)
+    number_read b b 0 (octets_of 8 (bits_of 64 n)) refl refl refl refl refl refl refl refl
+    ∙ ap (number_at 0) (sym (append-nil b)) ∙ number_back [] [] 0 n refl h
+
+-- and those that it puts
+pub number_put : (n : ℕ) → Word n → to_be_bytes w64 n ≡ number_bytes n
+unfolding number_bytes
+number_put n h = be_bytes_8 (number_bytes n) n (length-number n) (λ i. (octets_of 8 (bits_of 64 n) i).fits) (sym (bytes_read n h))
 
 -- a run of stores, as it is copied into a part of a list
-pub run-copied : (l vs : List ℕ) (at k : ℕ) → length vs ≡ k → at + k ≤ length l → put_mid at k l vs ≡ sets l at vs
-run-copied l vs at k e h =
+pub run_copied : (l vs : List ℕ) (at k : ℕ) → length vs ≡ k → at + k ≤ length l → put_mid at k l vs ≡ sets l at vs
+run_copied l vs at k e h =
     let fits : at + length vs ≤ length l = omega (arith, e) in
     rw (sets-eq vs l at fits, e, drop-drop k at l) (sym (append_assoc (take at l) vs (drop (at + k) l)))
 
@@ -105,22 +114,22 @@ length-session x = simp (length-append, length-number)
 -- ---- a block is filled by its parts in turn
 
 -- the head, and a session's six numbers, one after the other
-pub front-put : (l h : List ℕ) (a b c d e f : ℕ) → length h ≡ 8 → 8 ≤ length l
+pub front_put : (l h : List ℕ) (a b c d e f : ℕ) → length h ≡ 8 → 8 ≤ length l
     → sets (sets (sets (sets (sets (sets (h ++ drop 8 l) 8 (number_bytes a)) 16 (number_bytes b)) 24 (number_bytes c)) 32 (number_bytes d)) 40 (number_bytes e)) 48 (number_bytes f)
     ≡ sets l 0 (h ++ (number_bytes a ++ (number_bytes b ++ (number_bytes c ++ (number_bytes d ++ (number_bytes e ++ number_bytes f))))))
-front-put l h a b c d e f k s = rw (run-copied l h 0 8 k s) (simp (sets-append, length-number, k))
+front_put l h a b c d e f k s = rw (run_copied l h 0 8 k s) (simp (sets-append, length-number, k))
 
-pub tag-put : (l x : List ℕ) (f : Face) (s : Session) (n : ℕ) → length l ≡ tag_bytes → n ≡ name_number f.name
+pub tag_put : (l x : List ℕ) (f : Face) (s : Session) (n : ℕ) → length l ≡ tag_bytes → n ≡ name_number f.name
     → x ≡ sets l 0 (n ∷ bool_byte f.init ∷ bool_byte f.ta ∷ bool_byte f.ia ∷ bool_byte f.error ∷ f.keyid ∷ f.options ∷ f.width ∷ session_bytes s)
     → x ≡ tag_head f ++ session_bytes s
-tag-put l x f s n size named front =
+tag_put l x f s n size named front =
     let h : x ≡ sets l 0 (tag_head f ++ session_bytes s) = rw (named, byte-num, byte-num, byte-num, byte-num) at front in
     h ∙ sets-all l (tag_head f ++ session_bytes s) (rw (length-session s) size)
 
-pub reader-put : (l x y : List ℕ) (f : ReaderFace) (s : Session) (n : ℕ) → length l ≡ reader_bytes → n ≡ stage_number f.stage
+pub reader_put : (l x y : List ℕ) (f : ReaderFace) (s : Session) (n : ℕ) → length l ≡ reader_bytes → n ≡ stage_number f.stage
     → x ≡ sets l 0 (n ∷ f.method ∷ f.options ∷ f.keyid ∷ f.width ∷ 0 ∷ 0 ∷ 0 ∷ session_bytes s) → y ≡ sets x 56 (number_bytes f.number)
     → y ≡ reader_head f ++ (session_bytes s ++ number_bytes f.number)
-reader-put l x y f s n size named front last =
+reader_put l x y f s n size named front last =
     let p : List ℕ = reader_head f ++ session_bytes s in
     let m : List ℕ = number_bytes f.number in
     let k : length p ≡ 56 = rw (length-session s) in

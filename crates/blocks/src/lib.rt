@@ -27,7 +27,8 @@ pub trait Block: Copy {
     fn read(block: &[u8]) -> Self
         ensures { result ≡ blocks.state_in block.now };
 
-    // Stores a state; a block of another length is kept.
+    // Stores a state; a block of another length is kept. Each impl asks for the length itself: a method that fills a block of the
+    // right one would be a public function with a `requires`.
     fn store(self, block: &mut [u8])
         ensures { block.new ≡ stored_in blocks.bytes (blocks.block_of self) block.old };
 
@@ -42,7 +43,7 @@ pub trait Block: Copy {
         }
     }
 
-    ghost bytes: { BYTES ≡ blocks.bytes };
+    ghost long: { BYTES ≡ blocks.bytes };
 
     ghost sized: { (block : List ℕ) → blocks.spells block ≡ true → length block ≡ blocks.bytes };
 }

@@ -3,9 +3,8 @@ ghost use Rattle.std.specs.Prelude.{◌≡◌, ◌++◌, ◌+◌, ◌≤◌, ◌
 ghost use Rattle.std.proofs.lemmas.List.Edits.{sets};
 ghost use Rattle.blocks.specs.Blocks.{byte_at, number_at, number_bytes, session_in, session_bytes};
 
-use std::array;
-
 use grain::{Engine, Register, Session};
+use std::array;
 
 // ---- bytes
 
@@ -24,6 +23,7 @@ pub(crate) fn small(block: &[u8], i: usize, limit: u8) -> bool
 // ---- numbers
 
 // The number of eight bytes from `at` on; past the end they are zeros.
+#[tactic(auto, using(crate::proofs::Numbers::number_read))]
 pub(crate) fn number(block: &[u8], at: usize) -> u64
     requires { at < 64 }
     ensures { result ≡ number_at at block.now }
@@ -31,6 +31,7 @@ pub(crate) fn number(block: &[u8], at: usize) -> u64
     u64::from_be_bytes(array::from_fn(|k| bits::byte_at(block, at + k)))
 }
 
+#[tactic(auto, using(crate::proofs::Numbers::number_put, crate::proofs::Numbers::run_copied))]
 pub(crate) fn put_number(block: &mut [u8], at: usize, x: u64)
     requires { at + 8 ≤ length block.old }
     ensures { block.new ≡ sets block.old at (number_bytes x) }
@@ -40,6 +41,7 @@ pub(crate) fn put_number(block: &mut [u8], at: usize, x: u64)
 
 // ---- the session
 
+#[tactic(auto, unfolding(crate::specs::Blocks::session_in))]
 pub(crate) fn session(block: &[u8]) -> Session
     ensures { result ≡ session_in block.now }
 {
@@ -60,6 +62,7 @@ pub(crate) fn session(block: &[u8]) -> Session
 }
 
 // What both blocks begin with: the eight bytes of the head, and the session.
+#[tactic(auto, using(crate::proofs::Numbers::front_put), unfolding(crate::specs::Blocks::session_bytes))]
 pub(crate) fn put_front(block: &mut [u8], head: [u8; 8], session: Session)
     requires { 56 ≤ length block.old }
     ensures { block.new ≡ sets block.old 0 (head ++ session_bytes session) }

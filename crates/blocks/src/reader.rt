@@ -24,6 +24,7 @@ impl Block for ReaderState {
             & parts::small(block, 7, 1)
     }
 
+    #[tactic(auto, unfolding(crate::specs::Blocks::reader_in))]
     fn read(block: &[u8]) -> ReaderState {
         let stage = stage(bits::byte_at(block, 0));
         let session = parts::session(block);
@@ -58,7 +59,7 @@ impl Block for ReaderState {
         parts::put_number(block, 56, face.number);
     }
 
-    ghost bytes = { refl };
+    ghost long = { refl };
 
     ghost sized = { reader_sized };
 }

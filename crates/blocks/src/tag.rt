@@ -25,6 +25,7 @@ impl Block for TagState {
             & parts::small(block, 4, 2)
     }
 
+    #[tactic(auto, unfolding(crate::specs::Blocks::tag_in))]
     fn read(block: &[u8]) -> TagState {
         let name = name(bits::byte_at(block, 0));
         let session = parts::session(block);
@@ -60,7 +61,7 @@ impl Block for TagState {
         parts::put_front(block, head, self.session());
     }
 
-    ghost bytes = { refl };
+    ghost long = { refl };
 
     ghost sized = { tag_sized };
 }

@@ -51,7 +51,8 @@ called b block call = cond (b.spells block) (gave b (call (b.state_in block))) (
 unfoldable pub reset_called : {S : Type 0} → Blocks S → List ℕ → Result S → Called
 reset_called b block reset = cond (eqb (length block) b.bytes) (gave b reset) (kept_with (number_of BadState) block)
 
--- a machine's call, as code with a post of its own, does this work in any buffer that shows what stood there before
+-- a call, by what it says of the buffer it is lent, its step and the buffer it leaves, does a machine's work in a buffer that holds
+-- `before`
 abbrev pub Does : {S : Type 0} → Result S → List ℕ → (MutBor (List ℕ) → Step S → MutBor (List ℕ) → Type 0) → Type 0
 Does {S} work before post = (p q : MutBor (List ℕ)) (s : Step S) → p.now ≡ before → post p s q → Gives step_of work s before q.now
 
