@@ -56,7 +56,7 @@ session_bytes x =
 abbrev pub stored_in : ℕ → List ℕ → List ℕ → List ℕ
 stored_in bytes state block = cond (eqb (length block) bytes) state block
 
--- of a state: its block's length, whether a block spells one, which, and its block
+-- of a machine's state: its block's length, whether a block spells one, which, and its block
 pub record Blocks (S : Type 0) : Type 0 where
   pub bytes : ℕ
   pub spells : List ℕ → Bool
@@ -126,7 +126,7 @@ tag_head f =
 unfoldable pub tag_block : TagState → List ℕ
 tag_block t = tag_head (face_of t) ++ session_bytes (secrets_of t)
 
--- all of it
+-- the four of a tag's state
 abbrev pub tag_blocks : Blocks TagState
 tag_blocks = record { bytes = tag_bytes; spells = spells_tag; state_in = tag_in; block_of = tag_block }
 
@@ -172,6 +172,6 @@ reader_head f = stage_number f.stage ∷ f.method ∷ f.options ∷ f.keyid ∷ 
 unfoldable pub reader_block : ReaderState → List ℕ
 reader_block r = reader_head (reader_face_of r) ++ (session_bytes (reader_secrets_of r) ++ number_bytes (reader_face_of r).number)
 
--- all of it
+-- the four of a reader's state
 abbrev pub reader_blocks : Blocks ReaderState
 reader_blocks = record { bytes = reader_bytes; spells = spells_reader; state_in = reader_in; block_of = reader_block }

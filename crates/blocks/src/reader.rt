@@ -15,7 +15,6 @@ impl Block for ReaderState {
     // The head, the session, and the reader's number.
     const BYTES: usize = 64;
 
-    #[tactic(auto, unfolding(crate::specs::Blocks::spells_reader))]
     fn spells(block: &[u8]) -> bool {
         (block.len() == Self::BYTES)
             & parts::small(block, 0, 5)

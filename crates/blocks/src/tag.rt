@@ -15,7 +15,6 @@ impl Block for TagState {
     // The head, and the session.
     const BYTES: usize = 56;
 
-    #[tactic(auto, unfolding(crate::specs::Blocks::spells_tag))]
     fn spells(block: &[u8]) -> bool {
         (block.len() == Self::BYTES)
             & parts::small(block, 0, 6)
