@@ -2,13 +2,10 @@
 use mathlib.Core.Path.{◌≡◌, refl, sym, ap, ap₂, ◌∙◌}
 use mathlib.Core.Bool.{Bool, true, false}
 use mathlib.Core.List.{List, [], ◌++◌, append_assoc, append-nil}
-use Prim.Native.Nat.{ℕ, ◌+◌, ◌*◌}
+use Prim.Native.Nat.{ℕ, ◌+◌}
 use lib.Dec.{eqb, ltb}
 use lib.ListN.{length, length-append}
-use Rattle.bits.specs.Bits.{bits_of, num}
-use Rattle.bits.specs.Bytes.{bits_of_bytes, bytes_of}
-use Rattle.bits.proofs.Numbers.{length-bits_of}
-use Rattle.bits.proofs.Bytes.{length-bits_of_bytes, bits-append, bits_back, field_back}
+use Rattle.bits.specs.Bits.{num}
 use Rattle.grain.specs.declared.Session.{Session}
 use Rattle.faces.specs.declared.Name.{Name}
 use Rattle.faces.specs.declared.Name.TheVariants.{CsReset, Ta1, Ia1, Ia2, Ma1, Ma2}
@@ -23,16 +20,9 @@ use Rattle.states.specs.ReaderStates.{ReaderState, reader_face_of, reader_secret
 use Rattle.states.proofs.TagStates.{parts_of_lem}
 use Rattle.states.proofs.ReaderStates.{reader_parts_of}
 use Rattle.blocks.specs.Blocks.{number_at, number_bytes, Word, Words, session_in, session_bytes, name_of, spells_tag, tag_face_in, tag_in, tag_head, tag_block, stage_of, spells_reader, reader_face_in, reader_in, reader_head, reader_block}
-use Rattle.blocks.proofs.Numbers.{length-number, length-session}
+use Rattle.blocks.proofs.Numbers.{length-number, number_back, length-session}
 
--- a number is read where it was put, whatever stands before and after it
-number_back : (p q : List ℕ) (at n : ℕ) → length p ≡ at → Word n → number_at at (p ++ (number_bytes n ++ q)) ≡ n
-unfolding number_at number_bytes
-number_back p q at n e h =
-    rw (bits-append p (bytes_of 8 (bits_of 64 n) ++ q), bits-append (bytes_of 8 (bits_of 64 n)) q, bits_back 8 (bits_of 64 n) (length-bits_of 64 n))
-    (field_back (bits_of_bytes p) (bits_of_bytes q) (8 * at) 64 n (length-bits_of_bytes p ∙ ap (λ (k : ℕ). 8 * k) e) h)
-
--- the same behind one number more
+-- where a list ends once a number more is put behind it
 module _ (p : List ℕ) (at : ℕ) (e : length p ≡ at) (n : ℕ) where
   further : length (p ++ number_bytes n) ≡ at + 8
   further = length-append p (number_bytes n) ∙ ap₂ (λ (i j : ℕ). i + j) e (length-number n)

@@ -1,6 +1,6 @@
 -- The lent block that holds a machine's state (include/kusarehyon.h): eight bytes, then numbers of eight bytes each, the highest
 -- byte first. Assumes nothing.
-use Rattle.std.specs.Prelude.{Bool, cond, ◌&&◌, List, [], ◌∷◌, ◌++◌, ℕ, ◌*◌, ◌<◌, ◌^◌, eqb, ltb, length, get_or}
+use Rattle.std.specs.Prelude.{Bool, cond, ◌&&◌, List, [], ◌∷◌, ◌++◌, ℕ, ◌*◌, ◌<◌, ◌^◌, eqb, ltb, length, get_or, Option, Some, None}
 use Rattle.bits.specs.Bits.{bits_of, num}
 use Rattle.bits.specs.Bytes.{bits_of_bytes, bytes_of, field_of}
 use Rattle.grain.specs.declared.Session.{Session}
@@ -53,6 +53,17 @@ session_bytes x =
 -- a block of another length takes no state
 abbrev pub stored_in : ℕ → List ℕ → List ℕ → List ℕ
 stored_in bytes state block = cond (eqb (length block) bytes) state block
+
+-- of a machine's state: its block's length, whether a block spells one, which, and its block
+pub record Blocks (S : Type 0) : Type 0 where
+  pub bytes : ℕ
+  pub spells : List ℕ → Bool
+  pub state_in : List ℕ → S
+  pub block_of : S → List ℕ
+
+-- some block "spells no state"
+abbrev pub spelled_in : {S : Type 0} → Blocks S → List ℕ → Option S
+spelled_in b block = cond (b.spells block) (Some (b.state_in block)) None
 
 -- eight bytes hold a number below 2 ^ 64
 abbrev pub Word : ℕ → Type 0
@@ -113,6 +124,10 @@ tag_head f =
 unfoldable pub tag_block : TagState → List ℕ
 tag_block t = tag_head (face_of t) ++ session_bytes (secrets_of t)
 
+-- the four of a tag's state
+abbrev pub tag_blocks : Blocks TagState
+tag_blocks = record { bytes = tag_bytes; spells = spells_tag; state_in = tag_in; block_of = tag_block }
+
 -- ---- the reader
 
 -- "reader, 64 bytes"
@@ -154,3 +169,7 @@ reader_head f = stage_number f.stage ∷ f.method ∷ f.options ∷ f.keyid ∷ 
 -- "eight bytes, then numbers of eight bytes each, the highest byte first"
 unfoldable pub reader_block : ReaderState → List ℕ
 reader_block r = reader_head (reader_face_of r) ++ (session_bytes (reader_secrets_of r) ++ number_bytes (reader_face_of r).number)
+
+-- the four of a reader's state
+abbrev pub reader_blocks : Blocks ReaderState
+reader_blocks = record { bytes = reader_bytes; spells = spells_reader; state_in = reader_in; block_of = reader_block }

@@ -1,2 +1,3 @@
 -- What the contracts of `blocks` cite.
 pub mod Blocks
+pub mod Sizes

@@ -1,9 +1,10 @@
-// What both blocks are made of: numbers of eight bytes, the head's eight bytes, and the session.
-ghost use Rattle.std.specs.Prelude.{◌≡◌, [], ◌∷◌, ◌+◌, ◌≤◌, ◌<◌, ◌%◌, ◌^◌, eqb, ltb, length};
+// What both blocks are made of: bytes, numbers of eight bytes, and head and session.
+ghost use Rattle.std.specs.Prelude.{◌≡◌, ◌++◌, ◌+◌, ◌≤◌, ◌<◌, eqb, ltb, length};
 ghost use Rattle.std.proofs.lemmas.List.Edits.{sets};
 ghost use Rattle.blocks.specs.Blocks.{byte_at, number_at, number_bytes, session_in, session_bytes};
 
 use grain::{Engine, Register, Session};
+use std::array;
 
 // ---- bytes
 
@@ -19,58 +20,28 @@ pub(crate) fn small(block: &[u8], i: usize, limit: u8) -> bool
     bits::byte_at(block, i) < limit
 }
 
-pub(crate) fn put_head(block: &mut [u8], a: u8, b: u8, c: u8, d: u8, e: u8, f: u8, g: u8, h: u8)
-    requires { 8 ≤ length block.old }
-    ensures { block.new ≡ sets block.old 0 (a ∷ b ∷ c ∷ d ∷ e ∷ f ∷ g ∷ h ∷ []) }
-{
-    block[0] = a;
-    block[1] = b;
-    block[2] = c;
-    block[3] = d;
-    block[4] = e;
-    block[5] = f;
-    block[6] = g;
-    block[7] = h;
-}
-
 // ---- numbers
 
-// The number of eight bytes from `at` on.
+// The number of eight bytes from `at` on; past the end they are zeros.
+#[tactic(auto, using(crate::proofs::Numbers::number_read))]
 pub(crate) fn number(block: &[u8], at: usize) -> u64
     requires { at < 64 }
     ensures { result ≡ number_at at block.now }
 {
-    let mut x: u64 = 0;
-    for k in 0..8 {
-        let b = bits::byte_at(block, at + k);
-        x = x * 256 + wide(b);
-    }
-    x
+    u64::from_be_bytes(array::from_fn(|k| bits::byte_at(block, at + k)))
 }
 
-fn wide(x: u8) -> u64
-    ensures { (result ≡ x) × (result < 256) }
-{
-    x as u64
-}
-
+#[tactic(auto, using(crate::proofs::Numbers::number_put, crate::proofs::Numbers::run_copied))]
 pub(crate) fn put_number(block: &mut [u8], at: usize, x: u64)
     requires { at + 8 ≤ length block.old }
     ensures { block.new ≡ sets block.old at (number_bytes x) }
 {
-    for k in 0..8 {
-        block[at + k] = low_byte(x >> (56 - 8 * k));
-    }
-}
-
-fn low_byte(x: u64) -> u8
-    ensures { result ≡ x % 2 ^ 8 }
-{
-    (x % 256) as u8
+    block[at..at + 8].copy_from_slice(&x.to_be_bytes());
 }
 
 // ---- the session
 
+#[tactic(auto, unfolding(crate::specs::Blocks::session_in))]
 pub(crate) fn session(block: &[u8]) -> Session
     ensures { result ≡ session_in block.now }
 {
@@ -90,13 +61,16 @@ pub(crate) fn session(block: &[u8]) -> Session
     }
 }
 
-pub(crate) fn put_session(block: &mut [u8], session: Session)
+// What both blocks begin with: the eight bytes of the head, and the session.
+#[tactic(auto, using(crate::proofs::Numbers::front_put), unfolding(crate::specs::Blocks::session_bytes))]
+pub(crate) fn put_front(block: &mut [u8], head: [u8; 8], session: Session)
     requires { 56 ≤ length block.old }
-    ensures { block.new ≡ sets block.old 8 (session_bytes session) }
+    ensures { block.new ≡ sets block.old 0 (head ++ session_bytes session) }
 {
     let engine = session.engine;
     let b = engine.b;
     let s = engine.s;
+    block[..8].copy_from_slice(&head);
     put_number(block, 8, b.first);
     put_number(block, 16, b.last);
     put_number(block, 24, s.first);

@@ -1,67 +1,68 @@
 // The tag's block.
-ghost use Rattle.std.specs.Prelude.{◌≡◌};
-ghost use Rattle.blocks.specs.Blocks.{stored_in, tag_bytes, name_of, spells_tag, tag_in, tag_block};
+ghost use Rattle.std.specs.Prelude.{◌≡◌, refl};
+ghost use Rattle.blocks.specs.Blocks.{name_of, tag_blocks};
+ghost use Rattle.blocks.specs.Sizes.{tag_sized};
 
-use crate::parts;
+use crate::{Block, parts};
 use faces::{Face, Name};
 use states::TagState;
 
-// The head, and the session.
-pub const BYTES: usize = 56;
+impl Block for TagState {
+    ghost blocks = { tag_blocks };
 
-// Whether a block spells a state. A state that it spells may still be against the rules.
-pub fn spells(block: &[u8]) -> bool
-    ensures { result ≡ spells_tag block.now }
-{
-    (block.len() == BYTES)
-        & parts::small(block, 0, 6)
-        & parts::small(block, 1, 2)
-        & parts::small(block, 2, 2)
-        & parts::small(block, 3, 2)
-        & parts::small(block, 4, 2)
-}
+    ghost BYTES = { 56 };
 
-// The state that a block spells.
-pub fn read(block: &[u8]) -> TagState
-    ensures { result ≡ tag_in block.now }
-{
-    let name = name(bits::byte_at(block, 0));
-    let session = parts::session(block);
-    let face = Face {
-        name,
-        init: parts::flag(block, 1),
-        ta: parts::flag(block, 2),
-        ia: parts::flag(block, 3),
-        error: parts::flag(block, 4),
-        keyid: bits::byte_at(block, 5),
-        options: bits::byte_at(block, 6),
-        width: bits::byte_at(block, 7),
-    };
-    TagState::of(face, session)
-}
+    // The head, and the session.
+    const BYTES: usize = 56;
 
-// Stores a state; a block of another length is kept.
-pub fn store(block: &mut [u8], tag: TagState)
-    ensures { block.new ≡ stored_in tag_bytes (tag_block tag) block.old }
-{
-    if block.len() != BYTES {
-        return;
+    fn spells(block: &[u8]) -> bool {
+        (block.len() == Self::BYTES)
+            & parts::small(block, 0, 6)
+            & parts::small(block, 1, 2)
+            & parts::small(block, 2, 2)
+            & parts::small(block, 3, 2)
+            & parts::small(block, 4, 2)
     }
-    let face = tag.face();
-    let name = face.name;
-    parts::put_head(
-        block,
-        u8::from(name),
-        face.init as u8,
-        face.ta as u8,
-        face.ia as u8,
-        face.error as u8,
-        face.keyid,
-        face.options,
-        face.width,
-    );
-    let session = tag.session();
-    parts::put_session(block, session);
+
+    #[tactic(auto, unfolding(crate::specs::Blocks::tag_in))]
+    fn read(block: &[u8]) -> TagState {
+        let name = name(bits::byte_at(block, 0));
+        let session = parts::session(block);
+        let face = Face {
+            name,
+            init: parts::flag(block, 1),
+            ta: parts::flag(block, 2),
+            ia: parts::flag(block, 3),
+            error: parts::flag(block, 4),
+            keyid: bits::byte_at(block, 5),
+            options: bits::byte_at(block, 6),
+            width: bits::byte_at(block, 7),
+        };
+        TagState::of(face, session)
+    }
+
+    fn store(self, block: &mut [u8]) {
+        if block.len() != Self::BYTES {
+            return;
+        }
+        let face = self.face();
+        let name = face.name;
+        let head = [
+            u8::from(name),
+            face.init as u8,
+            face.ta as u8,
+            face.ia as u8,
+            face.error as u8,
+            face.keyid,
+            face.options,
+            face.width,
+        ];
+        parts::put_front(block, head, self.session());
+    }
+
+    ghost long = { refl };
+
+    ghost sized = { tag_sized };
 }
 
 #[tactic(auto, unfolding(crate::specs::Blocks::name_of))]

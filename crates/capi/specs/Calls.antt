@@ -1,6 +1,7 @@
 -- What a call over lent bytes gives (include/kusarehyon.h). Assumes nothing.
 use Rattle.std.specs.Prelude as Std
 use Rattle.std.specs.Prelude.{Bool, cond, not, List, [], ◌∷◌, ◌≡◌, ℕ, Ok, Err, eqb, length}
+use Rattle.std.specs.Borrow.{MutBor}
 use Rattle.bits.specs.Bytes.{bits_of_bytes}
 use Rattle.bits.specs.Area.{shown}
 use Rattle.book.specs.Book as Book
@@ -10,12 +11,14 @@ use Rattle.counts.specs.Refusal as Counts
 use Rattle.rules.specs.declared.Answer.TheVariants.{Done, BadBook, SmallBuffer, UnknownKey, BadState}
 use Rattle.rules.specs.Answers.{number_of}
 use Rattle.rules.specs.Calls.{Command, Message, Begin, small_room}
-use Rattle.rules.specs.Results.{Result}
+use Rattle.rules.specs.Results.{Result, Gives}
 use Rattle.states.specs.ReaderStates.{ReaderState}
 use Rattle.states.specs.TagStates.{TagState, closed_tag}
 use Rattle.machines.specs.TagWork.{reset_of, command_of, response_of, error_type_of}
 use Rattle.machines.specs.ReaderWork.{reader_reset, begin_of, replied_of, sending_of, receiving_of}
-use Rattle.blocks.specs.Blocks.{tag_bytes, spells_tag, tag_in, tag_block, reader_bytes, spells_reader, reader_in, reader_block}
+use Rattle.suite.specs.declared.Step.{Step}
+use Rattle.suite.specs.Steps.{step_of}
+use Rattle.blocks.specs.Blocks.{Blocks, spells_tag, tag_in, tag_block, tag_blocks, reader_blocks}
 
 -- the block after a call, the number answered, the reply
 pub record Called : Type 0 where
@@ -36,13 +39,6 @@ kept_with answer block = record { block = block; answer = answer; reply = [] }
 
 -- ---- a call over a block, of either machine
 
--- a block's length, whether it spells a state, which, and the block of a state
-pub record Blocks (S : Type 0) : Type 0 where
-  pub bytes : ℕ
-  pub spells : List ℕ → Bool
-  pub state_in : List ℕ → S
-  pub block_of : S → List ℕ
-
 -- "ANSWERS, by number", and the block of the next state
 abbrev pub gave : {S : Type 0} → Blocks S → Result S → Called
 gave b r = record { block = b.block_of r.next; answer = number_of r.answer; reply = r.reply }
@@ -55,10 +51,12 @@ called b block call = cond (b.spells block) (gave b (call (b.state_in block))) (
 unfoldable pub reset_called : {S : Type 0} → Blocks S → List ℕ → Result S → Called
 reset_called b block reset = cond (eqb (length block) b.bytes) (gave b reset) (kept_with (number_of BadState) block)
 
--- ---- the tag
+-- a call, by what it says of the buffer it is lent, its step and the buffer it leaves, does a machine's work in a buffer that holds
+-- `before`
+abbrev pub Does : {S : Type 0} → Result S → List ℕ → (MutBor (List ℕ) → Step S → MutBor (List ℕ) → Type 0) → Type 0
+Does {S} work before post = (p q : MutBor (List ℕ)) (s : Step S) → p.now ≡ before → post p s q → Gives step_of work s before q.now
 
-abbrev pub tag_blocks : Blocks TagState
-tag_blocks = record { bytes = tag_bytes; spells = spells_tag; state_in = tag_in; block_of = tag_block }
+-- ---- the tag
 
 -- `kusarehyon_tag_reset`
 abbrev pub tag_reset_called : List ℕ → Called
@@ -85,9 +83,6 @@ unfoldable pub error_type_called : List ℕ → ℕ
 error_type_called block = cond (spells_tag block) (error_type_of (tag_in block)) (number_of BadState)
 
 -- ---- the reader
-
-abbrev pub reader_blocks : Blocks ReaderState
-reader_blocks = record { bytes = reader_bytes; spells = spells_reader; state_in = reader_in; block_of = reader_block }
 
 -- `kusarehyon_reader_reset`
 abbrev pub reader_reset_called : List ℕ → Called

@@ -7,12 +7,14 @@ ghost use Rattle.bits.specs.Area.{shown};
 ghost use Rattle.book.specs.Book.{sound_of};
 ghost use Rattle.frames.specs.Frame.{scan_of, written_of, out_after};
 ghost use Rattle.rules.specs.Answers.{number_of};
-ghost use Rattle.blocks.specs.Blocks.{stored_in, tag_bytes, tag_block, reader_bytes, reader_block};
-ghost use Rattle.capi.specs.Calls.{Leaves, tag_reset_called, command_called, response_called, close_answer, closed_block, error_type_called, reader_reset_called, begin_called, replied_called, send_called, receive_called, find_called, scanned_numbers, written_numbers};
+ghost use Rattle.rules.specs.Results.{Result};
+ghost use Rattle.blocks.specs.Blocks.{stored_in};
+ghost use Rattle.capi.specs.Calls.{Leaves, Does, called, reset_called, tag_reset_called, command_called, response_called, close_answer, closed_block, error_type_called, reader_reset_called, begin_called, replied_called, send_called, receive_called, find_called, scanned_numbers, written_numbers};
 
+use blocks::Block;
 use rules::Answer;
-use states::{ReaderState, TagState};
-use suite::{Reader, Step, Tag};
+use states::TagState;
+use suite::{Machine, Reader, Step, Tag};
 
 // A key's bits.
 const KEY_BITS: usize = 8 * book::KEY_BYTES;
@@ -23,11 +25,7 @@ pub fn kusarehyon_tag_reset(state: &mut [u8], reply: &mut [u8], bits: &mut usize
     ensures { Leaves (tag_reset_called state.old)
         result bits.new state.new reply.old reply.new }
 {
-    if state.len() != blocks::tag::BYTES {
-        return refused(Answer::BadState, reply, bits);
-    }
-    let step = Tag::reset(reply);
-    stepped(state, step, bits)
+    reset(state, reply, bits, Tag::reset)
 }
 
 pub fn kusarehyon_tag_command(
@@ -44,14 +42,9 @@ pub fn kusarehyon_tag_command(
     ensures { Leaves (command_called state.old (record { kind = kind; payload = payload.now; count = count; features = features; book = book.now; number = number }) (length reply.old))
         result bits.new state.new reply.old reply.new }
 {
-    if !blocks::tag::spells(state) {
-        return refused(Answer::BadState, reply, bits);
-    }
-    let tag = Tag {
-        state: blocks::tag::read(state),
-    };
-    let step = tag.command(kind, payload, count, features, book, number, reply);
-    stepped(state, step, bits)
+    called(state, reply, bits, |tag: Tag, reply| {
+        tag.command(kind, payload, count, features, book, number, reply)
+    })
 }
 
 pub fn kusarehyon_tag_response(
@@ -65,41 +58,30 @@ pub fn kusarehyon_tag_response(
     ensures { Leaves (response_called state.old (record { kind = kind; payload = «data».now; count = count }) (length reply.old))
         result bits.new state.new reply.old reply.new }
 {
-    if !blocks::tag::spells(state) {
-        return refused(Answer::BadState, reply, bits);
-    }
-    let tag = Tag {
-        state: blocks::tag::read(state),
-    };
-    let step = tag.response(kind, data, count, reply);
-    stepped(state, step, bits)
+    called(state, reply, bits, |tag: Tag, reply| {
+        tag.response(kind, data, count, reply)
+    })
 }
 
 pub fn kusarehyon_tag_close(state: &mut [u8]) -> u8
     ensures value { result ≡ close_answer state.old }
     ensures state_after { state.new ≡ closed_block state.old }
 {
-    if !blocks::tag::spells(state) {
+    let Some(held) = TagState::spelled(state) else {
         return u8::from(Answer::BadState);
-    }
-    let tag = Tag {
-        state: blocks::tag::read(state),
     };
-    let closed = tag.close();
-    blocks::tag::store(state, closed.state);
+    let closed = Tag { state: held }.close();
+    closed.state.store(state);
     u8::from(Answer::Done)
 }
 
 pub fn kusarehyon_tag_error_type(state: &[u8]) -> u8
     ensures { result ≡ error_type_called state.now }
 {
-    if !blocks::tag::spells(state) {
+    let Some(held) = TagState::spelled(state) else {
         return u8::from(Answer::BadState);
-    }
-    let tag = Tag {
-        state: blocks::tag::read(state),
     };
-    tag.error_type()
+    Tag { state: held }.error_type()
 }
 
 // ---- the reader
@@ -108,11 +90,7 @@ pub fn kusarehyon_reader_reset(state: &mut [u8], reply: &mut [u8], bits: &mut us
     ensures { Leaves (reader_reset_called state.old)
         result bits.new state.new reply.old reply.new }
 {
-    if state.len() != blocks::reader::BYTES {
-        return refused(Answer::BadState, reply, bits);
-    }
-    let step = Reader::reset(reply);
-    reader_stepped(state, step, bits)
+    reset(state, reply, bits, Reader::reset)
 }
 
 pub fn kusarehyon_reader_begin(
@@ -128,14 +106,9 @@ pub fn kusarehyon_reader_begin(
     ensures { Leaves (begin_called state.old (record { method = method; options = options; keyid = keyid; number = number; book = book.now }) (length reply.old))
         result bits.new state.new reply.old reply.new }
 {
-    if !blocks::reader::spells(state) {
-        return refused(Answer::BadState, reply, bits);
-    }
-    let reader = Reader {
-        state: blocks::reader::read(state),
-    };
-    let step = reader.begin(method, options, keyid, number, book, reply);
-    reader_stepped(state, step, bits)
+    called(state, reply, bits, |reader: Reader, reply| {
+        reader.begin(method, options, keyid, number, book, reply)
+    })
 }
 
 pub fn kusarehyon_reader_replied(
@@ -148,14 +121,9 @@ pub fn kusarehyon_reader_replied(
     ensures { Leaves (replied_called state.old payload.now count (length reply.old))
         result bits.new state.new reply.old reply.new }
 {
-    if !blocks::reader::spells(state) {
-        return refused(Answer::BadState, reply, bits);
-    }
-    let reader = Reader {
-        state: blocks::reader::read(state),
-    };
-    let step = reader.replied(payload, count, reply);
-    reader_stepped(state, step, bits)
+    called(state, reply, bits, |reader: Reader, reply| {
+        reader.replied(payload, count, reply)
+    })
 }
 
 pub fn kusarehyon_reader_send(
@@ -169,14 +137,9 @@ pub fn kusarehyon_reader_send(
     ensures { Leaves (send_called state.old (record { kind = kind; payload = «data».now; count = count }) (length reply.old))
         result bits.new state.new reply.old reply.new }
 {
-    if !blocks::reader::spells(state) {
-        return refused(Answer::BadState, reply, bits);
-    }
-    let reader = Reader {
-        state: blocks::reader::read(state),
-    };
-    let step = reader.send(kind, data, count, reply);
-    reader_stepped(state, step, bits)
+    called(state, reply, bits, |reader: Reader, reply| {
+        reader.send(kind, data, count, reply)
+    })
 }
 
 pub fn kusarehyon_reader_receive(
@@ -190,14 +153,9 @@ pub fn kusarehyon_reader_receive(
     ensures { Leaves (receive_called state.old (record { kind = kind; payload = payload.now; count = count }) (length reply.old))
         result bits.new state.new reply.old reply.new }
 {
-    if !blocks::reader::spells(state) {
-        return refused(Answer::BadState, reply, bits);
-    }
-    let reader = Reader {
-        state: blocks::reader::read(state),
-    };
-    let step = reader.receive(kind, payload, count, reply);
-    reader_stepped(state, step, bits)
+    called(state, reply, bits, |reader: Reader, reply| {
+        reader.receive(kind, payload, count, reply)
+    })
 }
 
 // ---- the key book
@@ -292,26 +250,48 @@ fn refused(answer: Answer, reply: &mut [u8], bits: &mut usize) -> u8
     u8::from(answer)
 }
 
-fn stepped(state: &mut [u8], step: Step<TagState>, bits: &mut usize) -> u8
-    ensures value { result ≡ number_of step.answer }
-    ensures bits_after { bits.new ≡ step.bits }
-    ensures state_after { state.new ≡ stored_in tag_bytes (tag_block step.next.state) state.old }
+// A call of a machine, over the block of its state.
+fn called<S: Block, F: FnOnce(Machine<S>, &mut [u8]) -> Step<S>>(
+    state: &mut [u8],
+    reply: &mut [u8],
+    bits: &mut usize,
+    call: F,
+) -> u8
+    requires { F.IsAlwaysCallable call }
+    ensures { (work : S → Result S) → ((t : S) → Does (work t) reply.old (F.post call (record { state = t })))
+        → Leaves (called S.blocks state.old work) result bits.new state.new reply.old reply.new }
 {
-    let answer = step.answer;
-    let next = step.next;
-    blocks::tag::store(state, next.state);
-    *bits = step.bits;
-    u8::from(answer)
+    let Some(held) = S::spelled(state) else {
+        return refused(Answer::BadState, reply, bits);
+    };
+    let step = call(Machine { state: held }, reply);
+    stepped(state, step, bits)
 }
 
-fn reader_stepped(state: &mut [u8], step: Step<ReaderState>, bits: &mut usize) -> u8
+// A reset of a machine, over any block of the right length.
+fn reset<S: Block, F: FnOnce(&mut [u8]) -> Step<S>>(
+    state: &mut [u8],
+    reply: &mut [u8],
+    bits: &mut usize,
+    call: F,
+) -> u8
+    requires { F.IsAlwaysCallable call }
+    ensures { (work : Result S) → Does work reply.old (F.post call)
+        → Leaves (reset_called S.blocks state.old work) result bits.new state.new reply.old reply.new }
+{
+    if state.len() != S::BYTES {
+        return refused(Answer::BadState, reply, bits);
+    }
+    let step = call(reply);
+    stepped(state, step, bits)
+}
+
+fn stepped<S: Block>(state: &mut [u8], step: Step<S>, bits: &mut usize) -> u8
     ensures value { result ≡ number_of step.answer }
     ensures bits_after { bits.new ≡ step.bits }
-    ensures state_after { state.new ≡ stored_in reader_bytes (reader_block step.next.state) state.old }
+    ensures state_after { state.new ≡ stored_in S.blocks.bytes (S.blocks.block_of step.next.state) state.old }
 {
-    let answer = step.answer;
-    let next = step.next;
-    blocks::reader::store(state, next.state);
+    step.next.state.store(state);
     *bits = step.bits;
-    u8::from(answer)
+    u8::from(step.answer)
 }

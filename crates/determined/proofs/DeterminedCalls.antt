@@ -13,23 +13,29 @@ use Rattle.determined.proofs.Determined.{part, Past, after, past}
 
 -- ---- blocks
 
-pub spells-tag : Determines BlocksContracts.tag.spells.ended Blocks.tag.spells.Reads.Post
+pub spells-tag : Determines BlocksContracts.tag.TagStateBlock.spells.ended Blocks.tag.TagStateBlock.spells.Reads.Post
 spells-tag κs a x y p q = part p q refl
 
-pub read-tag : Determines BlocksContracts.tag.read.ended Blocks.tag.read.Reads.Post
+pub read-tag : Determines BlocksContracts.tag.TagStateBlock.read.ended Blocks.tag.TagStateBlock.read.Reads.Post
 read-tag κs a x y p q = part p q refl
 
-pub store-tag : Determines BlocksContracts.tag.store.ended Blocks.tag.store.Reads.Post
-store-tag κs a x y p q = part refl refl (part p q refl)
+pub spelled-tag : Determines BlocksContracts.tag.TagStateBlock.spelled.ended Blocks.tag.TagStateBlock.spelled.Reads.Post
+spelled-tag κs a x y p q = part p q refl
 
-pub spells-reader : Determines BlocksContracts.reader.spells.ended Blocks.reader.spells.Reads.Post
+pub store-tag : Determines BlocksContracts.tag.TagStateBlock.store.ended Blocks.tag.TagStateBlock.store.Reads.Post
+store-tag κs a x y p q = part refl refl (past 1 _ (part p q refl))
+
+pub spells-reader : Determines BlocksContracts.reader.ReaderStateBlock.spells.ended Blocks.reader.ReaderStateBlock.spells.Reads.Post
 spells-reader κs a x y p q = part p q refl
 
-pub read-reader : Determines BlocksContracts.reader.read.ended Blocks.reader.read.Reads.Post
+pub read-reader : Determines BlocksContracts.reader.ReaderStateBlock.read.ended Blocks.reader.ReaderStateBlock.read.Reads.Post
 read-reader κs a x y p q = part p q refl
 
-pub store-reader : Determines BlocksContracts.reader.store.ended Blocks.reader.store.Reads.Post
-store-reader κs a x y p q = part refl refl (part p q refl)
+pub spelled-reader : Determines BlocksContracts.reader.ReaderStateBlock.spelled.ended Blocks.reader.ReaderStateBlock.spelled.Reads.Post
+spelled-reader κs a x y p q = part p q refl
+
+pub store-reader : Determines BlocksContracts.reader.ReaderStateBlock.store.ended Blocks.reader.ReaderStateBlock.store.Reads.Post
+store-reader κs a x y p q = part refl refl (past 1 _ (part p q refl))
 
 -- ---- capi
 

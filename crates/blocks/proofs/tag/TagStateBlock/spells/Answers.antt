@@ -1,6 +1,6 @@
--- `blocks::tag::spells` meets its contract.
+-- `blocks::tag::TagStateBlock::spells` meets its contract.
 use Rattle.blocks.specs.Blocks.{spells_tag}
-use Rattle.blocks.proofs.tag.spells.Goals as goal
+use Rattle.blocks.proofs.tag.TagStateBlock.spells.Goals as goal
 
 pub returns : goal.returns
 unfolding spells_tag

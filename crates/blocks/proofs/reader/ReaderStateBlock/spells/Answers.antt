@@ -1,6 +1,6 @@
--- `blocks::reader::spells` meets its contract.
+-- `blocks::reader::ReaderStateBlock::spells` meets its contract.
 use Rattle.blocks.specs.Blocks.{spells_reader}
-use Rattle.blocks.proofs.reader.spells.Goals as goal
+use Rattle.blocks.proofs.reader.ReaderStateBlock.spells.Goals as goal
 
 pub returns : goal.returns
 unfolding spells_reader
