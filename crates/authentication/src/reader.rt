@@ -54,13 +54,10 @@ fn answer_session(r: ReaderState, payload: &[u8]) -> Session
     ensures { result ≡ answer_session r (bits_of_bytes payload.now) }
 {
     let face = r.face();
-    let s = r.session();
-    let engine = s.engine;
-    let key = engine.b;
+    let key = r.session().engine.b;
     let tag = bits::field(payload, 8, 48);
     let e = session::begin(key, face.method, face.number, tag);
-    let width = session::chosen_width(face.options);
-    e.fill(width)
+    e.fill(session::chosen_width(face.options))
 }
 
 // The reader that a comparison of 64 keystream bits leaves: `next` where they are the same.
@@ -85,11 +82,9 @@ fn compare(r: ReaderState, payload: &[u8]) -> Outcome<ReaderState>
     ensures { result ≡ handed (compare_of r (bits_of_bytes payload.now)) }
 {
     let x = answer_session(r, payload);
-    let e = x.engine;
-    let ks = e.keystream();
+    let ks = x.engine.keystream();
     let given = bits::field(payload, 56, 64);
-    let engine = ks.engine;
-    let next = r.filled(true, session::with_engine(x, engine));
+    let next = r.filled(true, session::with_engine(x, ks.engine));
     compared(ks.word == given, next)
 }
 
@@ -99,10 +94,8 @@ fn prove(r: ReaderState, payload: &[u8]) -> Outcome<ReaderState>
 {
     let face = r.face();
     let x = answer_session(r, payload);
-    let e = x.engine;
-    let ks = e.keystream();
-    let engine = ks.engine;
-    let next = r.filled(false, session::with_engine(x, engine));
+    let ks = x.engine.keystream();
+    let next = r.filled(false, session::with_engine(x, ks.engine));
     Outcome {
         next,
         answer: Answer::Done,
@@ -126,10 +119,8 @@ fn confirm(r: ReaderState, payload: &[u8]) -> Outcome<ReaderState>
     ensures { result ≡ handed (confirm_of r (bits_of_bytes payload.now)) }
 {
     let x = r.session();
-    let e = x.engine;
-    let ks = e.keystream();
+    let ks = x.engine.keystream();
     let given = bits::field(payload, 1, 64);
-    let engine = ks.engine;
-    let next = r.opened(session::with_engine(x, engine));
+    let next = r.opened(session::with_engine(x, ks.engine));
     compared(ks.word == given, next)
 }

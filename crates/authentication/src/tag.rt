@@ -49,10 +49,13 @@ fn started(
 fn ta_started(keyid: u8, options: u8, features: u8, number: u64, x: Session) -> Outcome<TagState>
     ensures { result ≡ handed (ta_started keyid options features number x) }
 {
-    let e = x.engine;
-    let ks = e.keystream();
-    let engine = ks.engine;
-    let next = TagState::opened(Method::Ta, keyid, options, session::with_engine(x, engine));
+    let ks = x.engine.keystream();
+    let next = TagState::opened(
+        Method::Ta,
+        keyid,
+        options,
+        session::with_engine(x, ks.engine),
+    );
     Outcome {
         next,
         answer: Answer::Done,
@@ -85,13 +88,9 @@ pub fn prove(t: TagState, p: Shown, payload: &[u8]) -> Outcome<TagState>
     let face = t.face();
     let both = faces::tag::mutually(face);
     let options = p.fields.options;
-    let s = t.session();
-    let e = s.engine;
-    let x = e.fill(session::chosen_width(options));
-    let f = x.engine;
-    let ks = f.keystream();
-    let engine = ks.engine;
-    proved(both, ks.word == given, face.keyid, options, engine, x)
+    let x = t.session().engine.fill(session::chosen_width(options));
+    let ks = x.engine.keystream();
+    proved(both, ks.word == given, face.keyid, options, ks.engine, x)
 }
 
 fn proved(
@@ -117,8 +116,12 @@ fn mutually_proved(keyid: u8, options: u8, e: Engine, x: Session) -> Outcome<Tag
     ensures { result ≡ handed (mutually_proved keyid options e x) }
 {
     let ks = e.keystream();
-    let engine = ks.engine;
-    let next = TagState::opened(Method::Ma, keyid, options, session::with_engine(x, engine));
+    let next = TagState::opened(
+        Method::Ma,
+        keyid,
+        options,
+        session::with_engine(x, ks.engine),
+    );
     Outcome {
         next,
         answer: Answer::Done,

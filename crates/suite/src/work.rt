@@ -18,7 +18,7 @@ use faces::{Face, PublicParts, ReaderFace};
 use rules::Answer;
 use states::{ReaderState, State, TagState, session};
 
-// What closing leaves of a state.
+// What closing leaves of a state: of the tag's its name and flags, of the reader's nothing, so that the reader's own door takes none.
 pub(crate) trait Closes: PublicParts {
     ghost closed: { State Self → State Self };
 

@@ -5,4 +5,4 @@ use Rattle.authentication.proofs.reader.answer_session.Goals as goal
 
 pub returns : goal.returns
 unfolding answer_session filled_session
-returns c = rw (c.fill.ensures, c.chosen_width-width.ensures, c.begin-e.ensures, c.field-tag.ensures, c.session-s.ensures, c.face-face.ensures)
+returns c = rw (c.fill.ensures, c.chosen_width.ensures, c.begin-e.ensures, c.field-tag.ensures, c.session.ensures, c.face-face.ensures)

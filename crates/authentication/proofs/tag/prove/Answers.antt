@@ -5,4 +5,4 @@ use Rattle.authentication.proofs.tag.prove.Goals as goal
 
 pub returns : goal.returns
 unfolding prove_of filled_session next_keystream
-returns c = rw (c.keystream-ks.ensures, c.fill-x.ensures, c.chosen_width.ensures, c.session-s.ensures, c.mutually-both.ensures, c.face-face.ensures, c.field-given.ensures) at c.proved.ensures
+returns c = rw (c.keystream-ks.ensures, c.fill-x.ensures, c.chosen_width.ensures, c.session.ensures, c.mutually-both.ensures, c.face-face.ensures, c.field-given.ensures) at c.proved.ensures
