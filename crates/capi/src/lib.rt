@@ -1,5 +1,6 @@
 // The suite for programs in C and Rust, over numbers and lent bytes; include/kusarehyon.h says what each function does, and `capi_c`
-// hands them to C. No function here has a `requires`: any call, with any bytes, gets an answer.
+// hands them to C, which has no enums or structs of ours: each function takes and gives numbers. No function here has a `requires`:
+// any call, with any bytes, gets an answer.
 #![tactic(auto)]
 
 ghost use Rattle.std.specs.Prelude.{◌≡◌, [], ◌∷◌, length};

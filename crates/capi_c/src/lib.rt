@@ -1,4 +1,5 @@
-// The functions of include/kusarehyon.h as C calls them: `capi`'s, each under its own name and with its own contract.
+// The functions of include/kusarehyon.h as C calls them: `capi`'s, each under its own name and with its own contract. C needs each
+// name, and numbers for what it is given.
 #![tactic(auto)]
 
 ghost use Rattle.std.specs.Prelude.{◌≡◌, [], ◌∷◌, length};

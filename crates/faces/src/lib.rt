@@ -45,7 +45,8 @@ pub enum Name {
     Ma2,
 }
 
-// The public parts of its stored state: all that a verdict may look at.
+// The public parts of its stored state: all that a verdict may look at. Options and width are bytes as stored, which may be any: a
+// call answers 8 of those against the rules (`demand1_tag`).
 #[derive(Clone, Copy, Debug, PartialEq, Eq)]
 pub struct Face {
     pub name: Name,
@@ -58,7 +59,8 @@ pub struct Face {
     pub width: u8,
 }
 
-// A row of document 01's table of states; `specs/TagFaces.antt` says what each column is.
+// A row of document 01's table of states; `specs/TagFaces.antt` says what each column is. Method and step are numbers, as the bits
+// of a command are that they are held against, and 3 is that of none.
 #[derive(Clone, Copy, Debug, PartialEq, Eq)]
 pub struct Row {
     pub init: bool,
@@ -87,7 +89,8 @@ pub enum Stage {
     Closed,
 }
 
-// The public parts of its stored state: all that a verdict may look at.
+// The public parts of its stored state: all that a verdict may look at. Method, options and width are bytes as stored, which may be
+// any: a call answers 8 of those against the rules (`demand1_reader`).
 #[derive(Clone, Copy, Debug, PartialEq, Eq)]
 pub struct ReaderFace {
     pub stage: Stage,

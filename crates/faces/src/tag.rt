@@ -113,7 +113,8 @@ pub fn mutually(f: Face) -> bool
     row.method == 2
 }
 
-// The error type of Annex B's table: 1, 2 or 3; 0 where there is no error.
+// The error type of Annex B's table: 1, 2 or 3; 0 where there is no error. The table's number itself, of which demand 1 speaks and
+// which C takes.
 #[tactic(auto, unfolding(crate::specs::TagFaces::error_type))]
 pub fn error_type(f: Face) -> u8
     ensures { result ≡ error_type f }

@@ -94,7 +94,7 @@ pub fn if_sound(sound: bool, v: Verdict) -> Verdict
 // ---- the tag
 
 // What a command shows of itself.
-#[derive(Clone, Copy)]
+#[derive(Clone, Copy, Debug, PartialEq, Eq)]
 pub struct Shown {
     pub kind: u8,
     pub count: usize,

@@ -17,6 +17,7 @@ pub fn chosen_width(options: u8) -> Width
     }
 }
 
+// The MAC of a stored width. No `TryFrom`: a face may hold any byte, and `stored_width` says something of each.
 pub fn stored_width(width: u8) -> Width
     ensures { result ≡ stored_width width }
 {
@@ -45,16 +46,16 @@ pub fn begin(key: Register, method: u8, reader: u64, tag: u64) -> Engine
     e.start()
 }
 
+// No `TryFrom` either: a stored method may be any byte.
+#[tactic(auto, unfolding(crate::specs::Sessions::method_of))]
 fn method_of(method: u8) -> Method
     ensures { result ≡ method_of method }
 {
-    if method == 0 {
-        return Method::Ta;
+    match method {
+        0 => Method::Ta,
+        1 => Method::Ia,
+        _ => Method::Ma,
     }
-    if method == 1 {
-        return Method::Ia;
-    }
-    Method::Ma
 }
 
 // ---- messages

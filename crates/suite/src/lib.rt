@@ -16,7 +16,8 @@ ghost use Rattle.suite.specs.Steps.{step_of};
 use rules::{Answer, Shown, ShownBegin};
 use states::{ReaderState, TagState};
 
-// A machine: its stored state, and its calls.
+// A machine: its stored state, and its calls. Kinds, methods, options and features are bytes in all of them, since each call answers
+// every byte (`demand1_tag`, `demand1_reader`).
 #[derive(Clone, Copy)]
 pub struct Machine<S> {
     pub state: S,
