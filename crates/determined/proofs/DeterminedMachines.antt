@@ -171,10 +171,10 @@ pub tag-reset : Determines SuiteContracts.Machine+TagState.reset.ended Suite.Mac
 tag-reset κs a x y p q = gives 0 p q
 
 pub command : Determines SuiteContracts.Machine+TagState.command.ended Suite.Machine+TagState.command.Reads.Post
-command κs a x y p q = gives 7 p q
+command κs a x y p q = gives 2 p q
 
 pub response : Determines SuiteContracts.Machine+TagState.response.ended Suite.Machine+TagState.response.Reads.Post
-response κs a x y p q = gives 4 p q
+response κs a x y p q = gives 2 p q
 
 pub close : Determines SuiteContracts.Machine+TagState.close.ended Suite.Machine+TagState.close.Reads.Post
 close κs a x y p q = part p q refl
@@ -186,18 +186,18 @@ pub reader-reset : Determines SuiteContracts.Machine+ReaderState.reset.ended Sui
 reader-reset κs a x y p q = gives 0 p q
 
 pub begin : Determines SuiteContracts.Machine+ReaderState.begin.ended Suite.Machine+ReaderState.begin.Reads.Post
-begin κs a x y p q = gives 6 p q
+begin κs a x y p q = gives 2 p q
 
 pub replied : Determines SuiteContracts.Machine+ReaderState.replied.ended Suite.Machine+ReaderState.replied.Reads.Post
 replied κs a x y p q = gives 3 p q
 
 pub send : Determines SuiteContracts.Machine+ReaderState.send.ended Suite.Machine+ReaderState.send.Reads.Post
-send κs a x y p q = gives 4 p q
+send κs a x y p q = gives 2 p q
 
 pub receive : Determines SuiteContracts.Machine+ReaderState.receive.ended Suite.Machine+ReaderState.receive.Reads.Post
-receive κs a x y p q = gives 4 p q
+receive κs a x y p q = gives 2 p q
 
 -- ---- host
 
 pub run : Determines HostContracts.run.ended Host.run.Reads.Post
-run κs a x y p q = gives 7 p q
+run κs a x y p q = gives 2 p q
