@@ -22,11 +22,11 @@ left s buffer = record { next = s.next.state; answer = number_of s.answer; bits 
 -- ---- the tag
 
 pub tag-reset_tied : (κs : Lfts 1) (reply after : MutBor (List ℕ)) (s : Step TagState)
-    → Suite.Machine+TagState.reset.Reads.Post κs (reply, tt) s (after, tt) → left s after.now ≡ our_tag.reset reply.now
+    → Suite.Tag.reset.Reads.Post κs (reply, tt) s (after, tt) → left s after.now ≡ our_tag.reset reply.now
 tag-reset_tied κs reply after s p = ap₂ left p.step p.reply
 
 pub command_tied : (κs : Lfts 3) (t : Machine TagState) (kind count features number : ℕ) (payload book : Bor (List ℕ)) (reply after : MutBor (List ℕ)) (s : Step TagState)
-    → Suite.Machine+TagState.command.Reads.Post κs
+    → Suite.Tag.command.Reads.Post κs
     (t, (kind, (payload, (count, (features, (book, (number, (reply, tt))))))))
     s
     (t, (kind, (payload, (count, (features, (book, (number, (after, tt))))))))
@@ -36,24 +36,24 @@ pub command_tied : (κs : Lfts 3) (t : Machine TagState) (kind count features nu
 command_tied κs t kind count features number payload book reply after s p = ap₂ left p.step p.reply
 
 pub response_tied : (κs : Lfts 2) (t : Machine TagState) (kind count : ℕ) (payload : Bor (List ℕ)) (reply after : MutBor (List ℕ)) (s : Step TagState)
-    → Suite.Machine+TagState.response.Reads.Post κs (t, (kind, (payload, (count, (reply, tt))))) s (t, (kind, (payload, (count, (after, tt)))))
+    → Suite.Tag.response.Reads.Post κs (t, (kind, (payload, (count, (reply, tt))))) s (t, (kind, (payload, (count, (after, tt)))))
     → left s after.now ≡ our_tag.response t.state (record { kind = kind; payload = payload.now; count = count }) reply.now
 response_tied κs t kind count payload reply after s p = ap₂ left p.step p.reply
 
-pub close_tied : (t r : Machine TagState) → Suite.Machine+TagState.close.Reads.Post tt (t, tt) r (t, tt) → r.state ≡ our_tag.close t.state
+pub close_tied : (t r : Machine TagState) → Suite.Tag.close.Reads.Post tt (t, tt) r (t, tt) → r.state ≡ our_tag.close t.state
 close_tied t r p = ap (λ (x : Machine TagState). x.state) p
 
-pub error_type_tied : (t : Machine TagState) (r : ℕ) → Suite.Machine+TagState.error_type.Reads.Post tt (t, tt) r (t, tt) → r ≡ our_tag.error_type t.state
+pub error_type_tied : (t : Machine TagState) (r : ℕ) → Suite.Tag.error_type.Reads.Post tt (t, tt) r (t, tt) → r ≡ our_tag.error_type t.state
 error_type_tied t r p = p
 
 -- ---- the reader
 
 pub reader-reset_tied : (κs : Lfts 1) (reply after : MutBor (List ℕ)) (s : Step ReaderState)
-    → Suite.Machine+ReaderState.reset.Reads.Post κs (reply, tt) s (after, tt) → left s after.now ≡ our_reader.reset reply.now
+    → Suite.Reader.reset.Reads.Post κs (reply, tt) s (after, tt) → left s after.now ≡ our_reader.reset reply.now
 reader-reset_tied κs reply after s p = ap₂ left p.step p.reply
 
 pub begin_tied : (κs : Lfts 2) (r : Machine ReaderState) (method options keyid number : ℕ) (book : Bor (List ℕ)) (reply after : MutBor (List ℕ)) (s : Step ReaderState)
-    → Suite.Machine+ReaderState.begin.Reads.Post κs
+    → Suite.Reader.begin.Reads.Post κs
     (r, (method, (options, (keyid, (number, (book, (reply, tt)))))))
     s
     (r, (method, (options, (keyid, (number, (book, (after, tt)))))))
@@ -63,16 +63,16 @@ pub begin_tied : (κs : Lfts 2) (r : Machine ReaderState) (method options keyid 
 begin_tied κs r method options keyid number book reply after s p = ap₂ left p.step p.reply
 
 pub replied_tied : (κs : Lfts 2) (r : Machine ReaderState) (payload : Bor (List ℕ)) (count : ℕ) (reply after : MutBor (List ℕ)) (s : Step ReaderState)
-    → Suite.Machine+ReaderState.replied.Reads.Post κs (r, (payload, (count, (reply, tt)))) s (r, (payload, (count, (after, tt))))
+    → Suite.Reader.replied.Reads.Post κs (r, (payload, (count, (reply, tt)))) s (r, (payload, (count, (after, tt))))
     → left s after.now ≡ our_reader.replied r.state payload.now count reply.now
 replied_tied κs r payload count reply after s p = ap₂ left p.step p.reply
 
 pub send_tied : (κs : Lfts 2) (r : Machine ReaderState) (kind count : ℕ) (payload : Bor (List ℕ)) (reply after : MutBor (List ℕ)) (s : Step ReaderState)
-    → Suite.Machine+ReaderState.send.Reads.Post κs (r, (kind, (payload, (count, (reply, tt))))) s (r, (kind, (payload, (count, (after, tt)))))
+    → Suite.Reader.send.Reads.Post κs (r, (kind, (payload, (count, (reply, tt))))) s (r, (kind, (payload, (count, (after, tt)))))
     → left s after.now ≡ our_reader.send r.state (record { kind = kind; payload = payload.now; count = count }) reply.now
 send_tied κs r kind count payload reply after s p = ap₂ left p.step p.reply
 
 pub receive_tied : (κs : Lfts 2) (r : Machine ReaderState) (kind count : ℕ) (payload : Bor (List ℕ)) (reply after : MutBor (List ℕ)) (s : Step ReaderState)
-    → Suite.Machine+ReaderState.receive.Reads.Post κs (r, (kind, (payload, (count, (reply, tt))))) s (r, (kind, (payload, (count, (after, tt)))))
+    → Suite.Reader.receive.Reads.Post κs (r, (kind, (payload, (count, (reply, tt))))) s (r, (kind, (payload, (count, (after, tt)))))
     → left s after.now ≡ our_reader.receive r.state (record { kind = kind; payload = payload.now; count = count }) reply.now
 receive_tied κs r kind count payload reply after s p = ap₂ left p.step p.reply
