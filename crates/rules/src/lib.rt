@@ -108,7 +108,8 @@ pub struct Shown {
     pub known: bool,
 }
 
-// What a command does where nothing refuses it: step 0, step 1, a message.
+// What a command does where nothing refuses it: step 0, step 1, a message. An enum and no closure: it is decided here by public parts,
+// and done where the secrets are.
 #[derive(Clone, Copy, Debug, PartialEq, Eq)]
 pub enum Work {
     Start,
@@ -139,7 +140,8 @@ pub struct ShownReply {
     pub room: usize,
 }
 
-// What a response does where nothing refuses it: TA's comparison, the step 1 command, a failure, IA's status, MA's comparison.
+// What a response does where nothing refuses it: TA's comparison, the step 1 command, a failure, IA's status, MA's comparison. An enum
+// as `Work` is.
 #[derive(Clone, Copy, Debug, PartialEq, Eq)]
 pub enum ReplyWork {
     Compare,
