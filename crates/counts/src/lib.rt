@@ -15,7 +15,7 @@ const GROUP: usize = 128;
 
 // Why a frame, or anything else that has counts, is not read or not written: one list for every format. A count and its
 // payload are refused by the first three alone.
-#[derive(Clone, Copy, Debug, PartialEq, Eq)]
+#[derive(Clone, Copy, PartialEq, Eq)]
 pub enum Refusal {
     // The slice ends too soon; at a write, the payload is shorter than its count.
     Short = 20,
@@ -30,7 +30,7 @@ pub enum Refusal {
 }
 
 // A count that is read, and the place behind it.
-#[derive(Clone, Copy, Debug, PartialEq, Eq)]
+#[derive(Clone, Copy, PartialEq, Eq)]
 pub struct Counted {
     pub count: usize,
     pub next: usize,

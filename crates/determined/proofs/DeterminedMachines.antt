@@ -90,34 +90,34 @@ module _ (F : RattleType) (laws : Laws F) (copied : IsCopy F) (parts : Parts.Gho
   pub state_with_session : Determines (StatesContracts.doors.State.with_session.ended F parts d clone e) (States.doors.State.with_session.Reads.Post F laws copied parts d clone e)
   state_with_session κs a x y p q = part p q refl
 
-pub tag-state-reset : Determines StatesContracts.tag.State+Face.reset.ended States.tag.State+Face.reset.Reads.Post
+pub tag-state-reset : Determines StatesContracts.tag.TagState.reset.ended States.tag.TagState.reset.Reads.Post
 tag-state-reset κs a x y p q = part p q refl
 
-pub tag-closed : Determines StatesContracts.tag.State+Face.closed.ended States.tag.State+Face.closed.Reads.Post
+pub tag-closed : Determines StatesContracts.tag.TagState.closed.ended States.tag.TagState.closed.Reads.Post
 tag-closed κs a x y p q = part p q refl
 
-pub tag-failed : Determines StatesContracts.tag.State+Face.failed.ended States.tag.State+Face.failed.Reads.Post
+pub tag-failed : Determines StatesContracts.tag.TagState.failed.ended States.tag.TagState.failed.Reads.Post
 tag-failed κs a x y p q = part p q refl
 
-pub tag-begun : Determines StatesContracts.tag.State+Face.begun.ended States.tag.State+Face.begun.Reads.Post
+pub tag-begun : Determines StatesContracts.tag.TagState.begun.ended States.tag.TagState.begun.Reads.Post
 tag-begun κs a x y p q = part p q refl
 
-pub tag-opened : Determines StatesContracts.tag.State+Face.opened.ended States.tag.State+Face.opened.Reads.Post
+pub tag-opened : Determines StatesContracts.tag.TagState.opened.ended States.tag.TagState.opened.Reads.Post
 tag-opened κs a x y p q = part p q refl
 
-pub reader-state-reset : Determines StatesContracts.reader.State+ReaderFace.reset.ended States.reader.State+ReaderFace.reset.Reads.Post
+pub reader-state-reset : Determines StatesContracts.reader.ReaderState.reset.ended States.reader.ReaderState.reset.Reads.Post
 reader-state-reset κs a x y p q = part p q refl
 
-pub reader-closed : Determines StatesContracts.reader.State+ReaderFace.closed.ended States.reader.State+ReaderFace.closed.Reads.Post
+pub reader-closed : Determines StatesContracts.reader.ReaderState.closed.ended States.reader.ReaderState.closed.Reads.Post
 reader-closed κs a x y p q = part p q refl
 
-pub reader-begun : Determines StatesContracts.reader.State+ReaderFace.begun.ended States.reader.State+ReaderFace.begun.Reads.Post
+pub reader-begun : Determines StatesContracts.reader.ReaderState.begun.ended States.reader.ReaderState.begun.Reads.Post
 reader-begun κs a x y p q = part p q refl
 
-pub reader-filled : Determines StatesContracts.reader.State+ReaderFace.filled.ended States.reader.State+ReaderFace.filled.Reads.Post
+pub reader-filled : Determines StatesContracts.reader.ReaderState.filled.ended States.reader.ReaderState.filled.Reads.Post
 reader-filled κs a x y p q = part p q refl
 
-pub reader-opened : Determines StatesContracts.reader.State+ReaderFace.opened.ended States.reader.State+ReaderFace.opened.Reads.Post
+pub reader-opened : Determines StatesContracts.reader.ReaderState.opened.ended States.reader.ReaderState.opened.Reads.Post
 reader-opened κs a x y p q = part p q refl
 
 pub session-send : Determines StatesContracts.session.send.ended States.session.send.Reads.Post
@@ -167,34 +167,34 @@ gives : (n : ℕ) {S T : Type 0} {step_of : Result S → T} {r : Result S} {b : 
     → Gives step_of r x.0 b (after n _ x.1).0 → Gives step_of r y.0 b (after n _ y.1).0 → x ≡ y
 gives n p q = part p.step q.step (past n _ (part p.reply q.reply refl))
 
-pub tag-reset : Determines SuiteContracts.Machine+TagState.reset.ended Suite.Machine+TagState.reset.Reads.Post
+pub tag-reset : Determines SuiteContracts.Tag.reset.ended Suite.Tag.reset.Reads.Post
 tag-reset κs a x y p q = gives 0 p q
 
-pub command : Determines SuiteContracts.Machine+TagState.command.ended Suite.Machine+TagState.command.Reads.Post
+pub command : Determines SuiteContracts.Tag.command.ended Suite.Tag.command.Reads.Post
 command κs a x y p q = gives 2 p q
 
-pub response : Determines SuiteContracts.Machine+TagState.response.ended Suite.Machine+TagState.response.Reads.Post
+pub response : Determines SuiteContracts.Tag.response.ended Suite.Tag.response.Reads.Post
 response κs a x y p q = gives 2 p q
 
-pub close : Determines SuiteContracts.Machine+TagState.close.ended Suite.Machine+TagState.close.Reads.Post
+pub close : Determines SuiteContracts.Tag.close.ended Suite.Tag.close.Reads.Post
 close κs a x y p q = part p q refl
 
-pub error_type_lem : Determines SuiteContracts.Machine+TagState.error_type.ended Suite.Machine+TagState.error_type.Reads.Post
+pub error_type_lem : Determines SuiteContracts.Tag.error_type.ended Suite.Tag.error_type.Reads.Post
 error_type_lem κs a x y p q = part p q refl
 
-pub reader-reset : Determines SuiteContracts.Machine+ReaderState.reset.ended Suite.Machine+ReaderState.reset.Reads.Post
+pub reader-reset : Determines SuiteContracts.Reader.reset.ended Suite.Reader.reset.Reads.Post
 reader-reset κs a x y p q = gives 0 p q
 
-pub begin : Determines SuiteContracts.Machine+ReaderState.begin.ended Suite.Machine+ReaderState.begin.Reads.Post
+pub begin : Determines SuiteContracts.Reader.begin.ended Suite.Reader.begin.Reads.Post
 begin κs a x y p q = gives 2 p q
 
-pub replied : Determines SuiteContracts.Machine+ReaderState.replied.ended Suite.Machine+ReaderState.replied.Reads.Post
+pub replied : Determines SuiteContracts.Reader.replied.ended Suite.Reader.replied.Reads.Post
 replied κs a x y p q = gives 3 p q
 
-pub send : Determines SuiteContracts.Machine+ReaderState.send.ended Suite.Machine+ReaderState.send.Reads.Post
+pub send : Determines SuiteContracts.Reader.send.ended Suite.Reader.send.Reads.Post
 send κs a x y p q = gives 2 p q
 
-pub receive : Determines SuiteContracts.Machine+ReaderState.receive.ended Suite.Machine+ReaderState.receive.Reads.Post
+pub receive : Determines SuiteContracts.Reader.receive.ended Suite.Reader.receive.Reads.Post
 receive κs a x y p q = gives 2 p q
 
 -- ---- host

@@ -26,47 +26,47 @@ left s buffer = record { next = s.next.state; answer = number_of s.answer; bits 
 -- ---- the tag
 
 pub tag-reset_tied : (κs : Lfts 1) (reply after : MutBor (List ℕ)) (s : Step TagState)
-    → Suite.Machine+TagState.reset.Reads.Post κs (reply, tt) s (after, tt) → left s after.now ≡ our_tag.reset reply.now
+    → Suite.Tag.reset.Reads.Post κs (reply, tt) s (after, tt) → left s after.now ≡ our_tag.reset reply.now
 tag-reset_tied κs reply after s p = ap₂ left p.step p.reply
 
 pub command_tied : (κs : Lfts 2) (t : Machine TagState) (c : Command) (reply after : MutBor (List ℕ)) (s : Step TagState)
-    → Suite.Machine+TagState.command.Reads.Post κs (t, (c, (reply, tt))) s (t, (c, (after, tt)))
+    → Suite.Tag.command.Reads.Post κs (t, (c, (reply, tt))) s (t, (c, (after, tt)))
     → left s after.now ≡ our_tag.command t.state (lent_command c) reply.now
 command_tied κs t c reply after s p = ap₂ left p.step p.reply
 
 pub response_tied : (κs : Lfts 2) (t : Machine TagState) (m : Message) (reply after : MutBor (List ℕ)) (s : Step TagState)
-    → Suite.Machine+TagState.response.Reads.Post κs (t, (m, (reply, tt))) s (t, (m, (after, tt)))
+    → Suite.Tag.response.Reads.Post κs (t, (m, (reply, tt))) s (t, (m, (after, tt)))
     → left s after.now ≡ our_tag.response t.state (lent_message m) reply.now
 response_tied κs t m reply after s p = ap₂ left p.step p.reply
 
-pub close_tied : (t r : Machine TagState) → Suite.Machine+TagState.close.Reads.Post tt (t, tt) r (t, tt) → r.state ≡ our_tag.close t.state
+pub close_tied : (t r : Machine TagState) → Suite.Tag.close.Reads.Post tt (t, tt) r (t, tt) → r.state ≡ our_tag.close t.state
 close_tied t r p = ap (λ (x : Machine TagState). x.state) p
 
-pub error_type_tied : (t : Machine TagState) (r : ℕ) → Suite.Machine+TagState.error_type.Reads.Post tt (t, tt) r (t, tt) → r ≡ our_tag.error_type t.state
+pub error_type_tied : (t : Machine TagState) (r : ℕ) → Suite.Tag.error_type.Reads.Post tt (t, tt) r (t, tt) → r ≡ our_tag.error_type t.state
 error_type_tied t r p = p
 
 -- ---- the reader
 
 pub reader-reset_tied : (κs : Lfts 1) (reply after : MutBor (List ℕ)) (s : Step ReaderState)
-    → Suite.Machine+ReaderState.reset.Reads.Post κs (reply, tt) s (after, tt) → left s after.now ≡ our_reader.reset reply.now
+    → Suite.Reader.reset.Reads.Post κs (reply, tt) s (after, tt) → left s after.now ≡ our_reader.reset reply.now
 reader-reset_tied κs reply after s p = ap₂ left p.step p.reply
 
 pub begin_tied : (κs : Lfts 2) (r : Machine ReaderState) (b : Begin) (reply after : MutBor (List ℕ)) (s : Step ReaderState)
-    → Suite.Machine+ReaderState.begin.Reads.Post κs (r, (b, (reply, tt))) s (r, (b, (after, tt)))
+    → Suite.Reader.begin.Reads.Post κs (r, (b, (reply, tt))) s (r, (b, (after, tt)))
     → left s after.now ≡ our_reader.begin r.state (lent_begin b) reply.now
 begin_tied κs r b reply after s p = ap₂ left p.step p.reply
 
 pub replied_tied : (κs : Lfts 2) (r : Machine ReaderState) (payload : Bor (List ℕ)) (count : ℕ) (reply after : MutBor (List ℕ)) (s : Step ReaderState)
-    → Suite.Machine+ReaderState.replied.Reads.Post κs (r, (payload, (count, (reply, tt)))) s (r, (payload, (count, (after, tt))))
+    → Suite.Reader.replied.Reads.Post κs (r, (payload, (count, (reply, tt)))) s (r, (payload, (count, (after, tt))))
     → left s after.now ≡ our_reader.replied r.state payload.now count reply.now
 replied_tied κs r payload count reply after s p = ap₂ left p.step p.reply
 
 pub send_tied : (κs : Lfts 2) (r : Machine ReaderState) (m : Message) (reply after : MutBor (List ℕ)) (s : Step ReaderState)
-    → Suite.Machine+ReaderState.send.Reads.Post κs (r, (m, (reply, tt))) s (r, (m, (after, tt)))
+    → Suite.Reader.send.Reads.Post κs (r, (m, (reply, tt))) s (r, (m, (after, tt)))
     → left s after.now ≡ our_reader.send r.state (lent_message m) reply.now
 send_tied κs r m reply after s p = ap₂ left p.step p.reply
 
 pub receive_tied : (κs : Lfts 2) (r : Machine ReaderState) (m : Message) (reply after : MutBor (List ℕ)) (s : Step ReaderState)
-    → Suite.Machine+ReaderState.receive.Reads.Post κs (r, (m, (reply, tt))) s (r, (m, (after, tt)))
+    → Suite.Reader.receive.Reads.Post κs (r, (m, (reply, tt))) s (r, (m, (after, tt)))
     → left s after.now ≡ our_reader.receive r.state (lent_message m) reply.now
 receive_tied κs r m reply after s p = ap₂ left p.step p.reply

@@ -35,7 +35,7 @@ pub trait PublicParts: Copy {
 // ---- the tag
 
 // Its states, in the order of their numbers.
-#[derive(Clone, Copy, Debug, PartialEq, Eq)]
+#[derive(Clone, Copy, PartialEq, Eq)]
 pub enum Name {
     CsReset,
     Ta1,
@@ -47,7 +47,7 @@ pub enum Name {
 
 // The public parts of its stored state: all that a verdict may look at. Options and width are bytes as stored, which may be any: a
 // call answers 8 of those against the rules (`demand1_tag`).
-#[derive(Clone, Copy, Debug, PartialEq, Eq)]
+#[derive(Clone, Copy, PartialEq, Eq)]
 pub struct Face {
     pub name: Name,
     pub init: bool,
@@ -61,7 +61,7 @@ pub struct Face {
 
 // A row of document 01's table of states; `specs/TagFaces.antt` says what each column is. Method and step are numbers, as the bits
 // of a command are that they are held against, and 3 is that of none.
-#[derive(Clone, Copy, Debug, PartialEq, Eq)]
+#[derive(Clone, Copy, PartialEq, Eq)]
 pub struct Row {
     pub init: bool,
     pub ta: bool,
@@ -80,7 +80,7 @@ pub struct Row {
 // ---- the reader
 
 // Its states, in the order of their numbers.
-#[derive(Clone, Copy, Debug, PartialEq, Eq)]
+#[derive(Clone, Copy, PartialEq, Eq)]
 pub enum Stage {
     Idle,
     Step0Sent,
@@ -91,7 +91,7 @@ pub enum Stage {
 
 // The public parts of its stored state: all that a verdict may look at. Method, options and width are bytes as stored, which may be
 // any: a call answers 8 of those against the rules (`demand1_reader`).
-#[derive(Clone, Copy, Debug, PartialEq, Eq)]
+#[derive(Clone, Copy, PartialEq, Eq)]
 pub struct ReaderFace {
     pub stage: Stage,
     pub method: u8,
@@ -102,7 +102,7 @@ pub struct ReaderFace {
 }
 
 // Where a stage stands: all false where it is closed.
-#[derive(Clone, Copy, Debug, PartialEq, Eq)]
+#[derive(Clone, Copy, PartialEq, Eq)]
 pub struct StageRow {
     pub idle: bool,
     pub asked: bool,
@@ -129,7 +129,7 @@ impl From<Stage> for u8 {
 }
 
 // A byte that is no state's number.
-#[derive(Clone, Copy, Debug, PartialEq, Eq)]
+#[derive(Clone, Copy, PartialEq, Eq)]
 pub struct Unnumbered;
 
 impl TryFrom<u8> for Name {

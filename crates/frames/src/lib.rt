@@ -18,7 +18,7 @@ const RESET: u8 = 6;
 const MOST_BITS: usize = 2120;
 
 // What stands at the front of a slice: a payload of `count` bits from `start` up to `end`, where the next frame begins.
-#[derive(Clone, Copy, Debug, PartialEq, Eq)]
+#[derive(Clone, Copy, PartialEq, Eq)]
 pub struct Frame {
     // A byte and no enum: a write, a host's run and C take every byte, and each answers those above 6.
     pub kind: u8,

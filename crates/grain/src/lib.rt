@@ -17,7 +17,7 @@ ghost use Rattle.grain.specs.Stored.{width_of, bits_r, register_of, state_of, en
 use taps::Tap;
 
 // Who is authenticated (Table 2): the tag, the interrogator, or both.
-#[derive(Clone, Copy, Debug, PartialEq, Eq)]
+#[derive(Clone, Copy, PartialEq, Eq)]
 pub enum Method {
     Ta,
     Ia,
@@ -25,7 +25,7 @@ pub enum Method {
 }
 
 // The size of the MAC (Table 4, bit 0).
-#[derive(Clone, Copy, Debug, PartialEq, Eq)]
+#[derive(Clone, Copy, PartialEq, Eq)]
 pub enum Width {
     Mac32,
     Mac64,

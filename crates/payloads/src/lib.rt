@@ -18,7 +18,7 @@ pub const NUMBER_LIMIT: u64 = 1 << 48;
 
 // The fields that both authentication commands begin with. Bytes and no enums: they are what came, and a call answers them all
 // (`demand1_tag`).
-#[derive(Clone, Copy, Debug, PartialEq, Eq)]
+#[derive(Clone, Copy)]
 pub struct Fields {
     pub method: u8,
     pub step: u8,

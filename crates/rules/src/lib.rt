@@ -32,7 +32,7 @@ pub(crate) const IA: u8 = 1;
 pub(crate) const MA: u8 = 2;
 
 // What a call answers (document 01's table, in the order of its numbers).
-#[derive(Clone, Copy, Debug, PartialEq, Eq)]
+#[derive(Clone, Copy, PartialEq, Eq)]
 pub enum Answer {
     Done,
     BadBook,
@@ -51,7 +51,7 @@ pub enum Answer {
 // ---- the order
 
 // The checks that keep the state, each true where it refuses, in their order.
-#[derive(Clone, Copy, Debug, Default, PartialEq, Eq)]
+#[derive(Clone, Copy, Default, PartialEq, Eq)]
 pub struct Keeping {
     pub buffer: bool,
     pub argument: bool,
@@ -61,7 +61,7 @@ pub struct Keeping {
 }
 
 // The checks that close it, which stand behind those.
-#[derive(Clone, Copy, Debug, Default, PartialEq, Eq)]
+#[derive(Clone, Copy, Default, PartialEq, Eq)]
 pub struct Closing {
     pub kind: bool,
     pub length: bool,
@@ -71,7 +71,7 @@ pub struct Closing {
 }
 
 // A refusal: what is answered, and whether it closes the state or keeps it.
-#[derive(Clone, Copy, Debug, PartialEq, Eq)]
+#[derive(Clone, Copy, PartialEq, Eq)]
 pub struct Refused {
     pub closes: bool,
     pub answer: Answer,
@@ -95,7 +95,7 @@ pub fn if_sound(sound: bool, v: Verdict) -> Verdict
 // ---- the tag
 
 // What a command shows of itself.
-#[derive(Clone, Copy, Debug, PartialEq, Eq)]
+#[derive(Clone, Copy)]
 pub struct Shown {
     pub kind: u8,
     pub count: usize,
@@ -109,8 +109,9 @@ pub struct Shown {
     pub known: bool,
 }
 
-// What a command does where nothing refuses it: step 0, step 1, a message.
-#[derive(Clone, Copy, Debug, PartialEq, Eq)]
+// What a command does where nothing refuses it: step 0, step 1, a message. An enum and no closure: it is decided here by public parts,
+// and done where the secrets are.
+#[derive(Clone, Copy, PartialEq, Eq)]
 pub enum Work {
     Start,
     Prove,
@@ -120,7 +121,7 @@ pub enum Work {
 // ---- the reader
 
 // What begin shows of itself.
-#[derive(Clone, Copy, Debug, PartialEq, Eq)]
+#[derive(Clone, Copy, PartialEq, Eq)]
 pub struct ShownBegin {
     pub method: u8,
     pub options: u8,
@@ -131,7 +132,7 @@ pub struct ShownBegin {
 }
 
 // What an authentication response shows of itself.
-#[derive(Clone, Copy, Debug, PartialEq, Eq)]
+#[derive(Clone, Copy)]
 pub struct ShownReply {
     pub count: usize,
     pub beyond: bool,
@@ -140,8 +141,9 @@ pub struct ShownReply {
     pub room: usize,
 }
 
-// What a response does where nothing refuses it: TA's comparison, the step 1 command, a failure, IA's status, MA's comparison.
-#[derive(Clone, Copy, Debug, PartialEq, Eq)]
+// What a response does where nothing refuses it: TA's comparison, the step 1 command, a failure, IA's status, MA's comparison. An enum
+// as `Work` is.
+#[derive(Clone, Copy, PartialEq, Eq)]
 pub enum ReplyWork {
     Compare,
     Answer,
@@ -153,7 +155,7 @@ pub enum ReplyWork {
 // ---- both
 
 // What a message shows of itself, to its sender or to its receiver.
-#[derive(Clone, Copy, Debug, PartialEq, Eq)]
+#[derive(Clone, Copy, PartialEq, Eq)]
 pub struct ShownMessage {
     pub kind: u8,
     pub count: usize,

@@ -48,6 +48,9 @@ fn command_keeping(row: Row, f: Face, p: Shown) -> Keeping
     }
 }
 
+// A call of its own: into its caller a compiler takes a test of a message's data along, to choose between two values that are the
+// same (`tests/secrets` finds it).
+#[inline(never)]
 fn command_closing(row: Row, f: Face, p: Shown) -> Closing
     ensures { result ≡ command_closing row f p }
 {
@@ -87,36 +90,29 @@ fn wrong_length(row: Row, width: u8, p: Shown) -> bool
     }
 }
 
+// By `&` and `|` here and in the two tests below: where a message comes, the fields' places hold data, which chooses no branch.
 fn step_wanted(row: Row, method: u8, step: u8) -> bool
     ensures { result ≡ step_wanted row method step }
 {
-    let own = if row.step == 0 {
-        method != 3
-    } else {
-        method == row.method
-    };
-    (step == row.step) & own
+    let fresh = row.step == 0;
+    (step == row.step) & ((fresh & (method != 3)) | (!fresh & (method == row.method)))
 }
 
 fn key_fits(row: Row, stored: u8, p: Shown) -> bool
     ensures { result ≡ key_fits row stored p }
 {
-    if row.step == 0 {
-        p.known
-    } else {
-        p.fields.keyid == stored
-    }
+    let fresh = row.step == 0;
+    (fresh & p.known) | (!fresh & (p.fields.keyid == stored))
 }
 
 fn options_supported(row: Row, p: Shown) -> bool
     ensures { result ≡ options_supported row p }
 {
+    let fresh = row.step == 0;
     let options = p.fields.options;
-    if row.step == 0 {
-        payloads::start_supported(p.features, p.fields.method, options)
-    } else {
-        payloads::supported(p.features, options)
-    }
+    let start = payloads::start_supported(p.features, p.fields.method, options);
+    let later = payloads::supported(p.features, options);
+    (fresh & start) | (!fresh & later)
 }
 
 // What is done where nothing is refused.

@@ -9,7 +9,7 @@ use grain::{Engine, Register, Session};
 
 pub type ReaderState = State<ReaderFace>;
 
-impl State<ReaderFace> {
+impl ReaderState {
     #[tactic(auto, unfolding(crate::specs::ReaderStates::reset_reader))]
     pub fn reset() -> ReaderState
         ensures { result ≡ reset_reader }

@@ -6,7 +6,7 @@ ghost use Rattle.states.specs.Sessions.{method_of, chosen_width, stored_width, k
 
 use grain::{Engine, Method, Register, Session, Width};
 
-// The MAC that options bit 0 chooses.
+// The MAC that options bit 0 chooses. No `From`: it is one of the things that options say.
 pub fn chosen_width(options: u8) -> Width
     ensures { result ≡ chosen_width options }
 {
@@ -60,7 +60,8 @@ fn method_of(method: u8) -> Method
 
 // ---- messages
 
-// The first `count` bits of `bytes`, as they go out, where they stand.
+// The first `count` bits of `bytes`, as they go out, where they stand. `secure` is a flag and no closure: `encrypt` writes the bytes that
+// `authenticate` only reads, so that they have no type in common.
 pub fn send(x: Session, width: Width, secure: bool, bytes: &mut [u8], count: usize) -> Session
     ensures { (result ≡ sent_session width secure (take count (bits_of_bytes bytes.old)) x)
         × (bytes.new ≡ with_front count (body_of width secure (take count (bits_of_bytes bytes.old)) x) bytes.old) }

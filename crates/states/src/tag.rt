@@ -8,7 +8,7 @@ use grain::{Engine, Method, Session};
 
 pub type TagState = State<Face>;
 
-impl State<Face> {
+impl TagState {
     #[tactic(auto, unfolding(crate::specs::TagStates::reset_tag))]
     pub fn reset() -> TagState
         ensures { result ≡ reset_tag }

@@ -36,7 +36,7 @@ pub struct Step<S> {
     pub bits: usize,
 }
 
-impl Machine<TagState> {
+impl Tag {
     // A call with a shorter reply buffer is refused with 2.
     pub const REPLY_BYTES: usize = bits::AREA_BYTES;
 
@@ -119,7 +119,7 @@ impl Machine<TagState> {
     }
 }
 
-impl Machine<ReaderState> {
+impl Reader {
     // The reader after a reset. It is never refused, and zeroes the reply area, however short.
     pub fn reset(reply: &mut [u8]) -> Step<ReaderState>
         ensures { Gives step_of reader_reset result reply.old reply.new }

@@ -1,9 +1,9 @@
--- `suite::Machine<TagState>::command` meets its contract.
+-- `suite::Tag::command` meets its contract.
 use Rattle.book.proofs.Laws.{some-copied, or-copied}
 use Rattle.machines.specs.TagWork.{command_of}
 use Rattle.rules.specs.TagRules.{shown_of}
 use Rattle.rules.proofs.TagLaws.{key_known, key_found}
-use Rattle.suite.proofs.Machine+TagState.command.Goals as goal
+use Rattle.suite.proofs.Tag.command.Goals as goal
 
 pub returns : goal.returns
 unfolding command_of shown_of

@@ -1,8 +1,8 @@
--- `suite::Machine<ReaderState>::replied` meets its contract.
+-- `suite::Reader::replied` meets its contract.
 use mathlib.Core.Path.{sym, ◌∙◌}
 use Rattle.rules.specs.Results.{decided}
 use Rattle.machines.specs.ReaderWork.{replied_of}
-use Rattle.suite.proofs.Machine+ReaderState.replied.Goals as goal
+use Rattle.suite.proofs.Reader.replied.Goals as goal
 
 pub returns-in-Err : goal.returns-in-Err
 unfolding replied_of decided

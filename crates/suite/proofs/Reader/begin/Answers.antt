@@ -1,9 +1,9 @@
--- `suite::Machine<ReaderState>::begin` meets its contract.
+-- `suite::Reader::begin` meets its contract.
 use mathlib.Core.Path.{sym}
 use Rattle.rules.specs.Results.{decided}
 use Rattle.book.proofs.Laws.{found-some, found_key, some-copied, or-copied}
 use Rattle.machines.specs.ReaderWork.{begin_of}
-use Rattle.suite.proofs.Machine+ReaderState.begin.Goals as goal
+use Rattle.suite.proofs.Reader.begin.Goals as goal
 
 pub returns-in-Err : goal.returns-in-Err
 unfolding begin_of decided

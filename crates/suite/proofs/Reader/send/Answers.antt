@@ -1,11 +1,11 @@
--- `suite::Machine<ReaderState>::send` meets its contract.
+-- `suite::Reader::send` meets its contract.
 use mathlib.Core.Path.{refl, sym, ◌∙◌}
 use lib.ListN.{length}
 use Rattle.rules.specs.Results.{decided}
 use Rattle.rules.proofs.ReaderLaws.{send_sendable}
 use Rattle.rules.proofs.Verdicts.{sound_goes}
 use Rattle.machines.specs.ReaderWork.{sent_by, sending_of}
-use Rattle.suite.proofs.Machine+ReaderState.send.Goals as goal
+use Rattle.suite.proofs.Reader.send.Goals as goal
 
 pub send-requires-in-Ok : goal.send-requires-in-Ok
 send-requires-in-Ok c =

@@ -1,4 +1,4 @@
--- `suite::Machine<ReaderState>::receive` meets its contract.
+-- `suite::Reader::receive` meets its contract.
 use mathlib.Core.Path.{refl, sym, ◌∙◌}
 use lib.ListN.{length}
 use Rattle.rules.specs.Results.{decided}
@@ -7,7 +7,7 @@ use Rattle.rules.proofs.Verdicts.{sound_goes}
 use Rattle.states.proofs.Sessions.{width-stored}
 use Rattle.machines.specs.ReaderWork.{received_by, receiving_of}
 use Rattle.machines.proofs.ReaderSound.{reader-face-sound}
-use Rattle.suite.proofs.Machine+ReaderState.receive.Goals as goal
+use Rattle.suite.proofs.Reader.receive.Goals as goal
 
 pub receive-requires-in-Ok : goal.receive-requires-in-Ok
 receive-requires-in-Ok c =

@@ -1,7 +1,7 @@
--- `suite::Machine<TagState>::error_type` meets its contract.
+-- `suite::Tag::error_type` meets its contract.
 use Rattle.states.specs.TagStates.{sound_of}
 use Rattle.machines.specs.TagWork.{error_type_of}
-use Rattle.suite.proofs.Machine+TagState.error_type.Goals as goal
+use Rattle.suite.proofs.Tag.error_type.Goals as goal
 
 pub returns-then-sound : goal.returns-then-sound
 unfolding error_type_of sound_of

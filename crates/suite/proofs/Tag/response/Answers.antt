@@ -1,11 +1,11 @@
--- `suite::Machine<TagState>::response` meets its contract.
+-- `suite::Tag::response` meets its contract.
 use mathlib.Core.Path.{refl, sym, ◌∙◌}
 use lib.ListN.{length}
 use Rattle.rules.specs.Results.{decided}
 use Rattle.rules.proofs.TagLaws.{response_sendable}
 use Rattle.rules.proofs.Verdicts.{sound_goes}
 use Rattle.machines.specs.TagWork.{send_of, response_of}
-use Rattle.suite.proofs.Machine+TagState.response.Goals as goal
+use Rattle.suite.proofs.Tag.response.Goals as goal
 
 pub send-requires : goal.send-requires
 send-requires c =
