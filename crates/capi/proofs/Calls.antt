@@ -6,7 +6,7 @@ use Prim.Native.Nat.{ℕ, ◌*◌}
 use lib.ListN.{length, take}
 use lib.Seq.{take_all}
 use native.Mathlib.Omega.{arith}
-use borrow.Author.Tests.{eq-eqb, ne_eqb}
+use borrow.Author.Tests.{eq-eqb}
 use Rattle.std.specs.Prelude.{Option, is_some, unwrap_or}
 use Rattle.bits.specs.Bytes.{bits_of_bytes}
 use Rattle.bits.specs.Area.{shown}

@@ -15,7 +15,7 @@ ghost use Rattle.capi.specs.Calls.{Leaves, Does, called, reset_called, tag_reset
 use blocks::Block;
 use rules::Answer;
 use states::TagState;
-use suite::{Machine, Reader, Step, Tag};
+use suite::{Begin, Command, Machine, Message, Reader, Step, Tag};
 
 // A key's bits.
 const KEY_BITS: usize = 8 * book::KEY_BYTES;
@@ -44,7 +44,15 @@ pub fn kusarehyon_tag_command(
         result bits.new state.new reply.old reply.new }
 {
     called(state, reply, bits, |tag: Tag, reply| {
-        tag.command(kind, payload, count, features, book, number, reply)
+        let command = Command {
+            kind,
+            payload,
+            count,
+            features,
+            book,
+            number,
+        };
+        tag.command(command, reply)
     })
 }
 
@@ -60,7 +68,12 @@ pub fn kusarehyon_tag_response(
         result bits.new state.new reply.old reply.new }
 {
     called(state, reply, bits, |tag: Tag, reply| {
-        tag.response(kind, data, count, reply)
+        let message = Message {
+            kind,
+            payload: data,
+            count,
+        };
+        tag.response(message, reply)
     })
 }
 
@@ -108,7 +121,14 @@ pub fn kusarehyon_reader_begin(
         result bits.new state.new reply.old reply.new }
 {
     called(state, reply, bits, |reader: Reader, reply| {
-        reader.begin(method, options, keyid, number, book, reply)
+        let begin = Begin {
+            method,
+            options,
+            keyid,
+            number,
+            book,
+        };
+        reader.begin(begin, reply)
     })
 }
 
@@ -139,7 +159,12 @@ pub fn kusarehyon_reader_send(
         result bits.new state.new reply.old reply.new }
 {
     called(state, reply, bits, |reader: Reader, reply| {
-        reader.send(kind, data, count, reply)
+        let message = Message {
+            kind,
+            payload: data,
+            count,
+        };
+        reader.send(message, reply)
     })
 }
 
@@ -155,7 +180,12 @@ pub fn kusarehyon_reader_receive(
         result bits.new state.new reply.old reply.new }
 {
     called(state, reply, bits, |reader: Reader, reply| {
-        reader.receive(kind, payload, count, reply)
+        let message = Message {
+            kind,
+            payload,
+            count,
+        };
+        reader.receive(message, reply)
     })
 }
 

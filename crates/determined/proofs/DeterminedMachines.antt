@@ -171,10 +171,10 @@ pub tag-reset : Determines SuiteContracts.Tag.reset.ended Suite.Tag.reset.Reads.
 tag-reset κs a x y p q = gives 0 p q
 
 pub command : Determines SuiteContracts.Tag.command.ended Suite.Tag.command.Reads.Post
-command κs a x y p q = gives 7 p q
+command κs a x y p q = gives 2 p q
 
 pub response : Determines SuiteContracts.Tag.response.ended Suite.Tag.response.Reads.Post
-response κs a x y p q = gives 4 p q
+response κs a x y p q = gives 2 p q
 
 pub close : Determines SuiteContracts.Tag.close.ended Suite.Tag.close.Reads.Post
 close κs a x y p q = part p q refl
@@ -186,18 +186,18 @@ pub reader-reset : Determines SuiteContracts.Reader.reset.ended Suite.Reader.res
 reader-reset κs a x y p q = gives 0 p q
 
 pub begin : Determines SuiteContracts.Reader.begin.ended Suite.Reader.begin.Reads.Post
-begin κs a x y p q = gives 6 p q
+begin κs a x y p q = gives 2 p q
 
 pub replied : Determines SuiteContracts.Reader.replied.ended Suite.Reader.replied.Reads.Post
 replied κs a x y p q = gives 3 p q
 
 pub send : Determines SuiteContracts.Reader.send.ended Suite.Reader.send.Reads.Post
-send κs a x y p q = gives 4 p q
+send κs a x y p q = gives 2 p q
 
 pub receive : Determines SuiteContracts.Reader.receive.ended Suite.Reader.receive.Reads.Post
-receive κs a x y p q = gives 4 p q
+receive κs a x y p q = gives 2 p q
 
 -- ---- host
 
 pub run : Determines HostContracts.run.ended Host.run.Reads.Post
-run κs a x y p q = gives 7 p q
+run κs a x y p q = gives 2 p q

@@ -3,34 +3,29 @@
 #![tactic(auto)]
 
 ghost use Rattle.std.specs.Prelude.{length};
+ghost use Rattle.rules.specs.Calls.{lent_command};
 ghost use Rattle.rules.specs.Results.{Gives};
 ghost use Rattle.suite.specs.Steps.{step_of};
 ghost use Rattle.host.specs.Kinds.{ran_of};
 
 use states::TagState;
-use suite::{Step, Tag};
+use suite::{Command, Message, Step, Tag};
 
-// Runs a frame of this kind and the first `count` bits of `payload`; features, key book and number are the tag's, and only a
-// command looks at them. No frame has a kind above 6: such a kind goes to the command, which refuses each above 3 and keeps the
-// tag as it is.
+// Runs a frame of this kind and payload; features, key book and number are the tag's, and only a command looks at them. No frame has
+// a kind above 6: such a kind goes to the command, which refuses each above 3 and keeps the tag as it is.
 #[tactic(auto, unfolding(crate::specs::Kinds::ran_of))]
-pub fn run(
-    tag: Tag,
-    kind: u8,
-    payload: &[u8],
-    count: usize,
-    features: u8,
-    book: &[u8],
-    number: u64,
-    reply: &mut [u8],
-) -> Step<TagState>
-    ensures { Gives step_of
-        (ran_of tag.state (record { kind = kind; payload = payload.now; count = count; features = features; book = book.now; number = number }) (length reply.old))
+pub fn run(tag: Tag, command: Command<'_>, reply: &mut [u8]) -> Step<TagState>
+    ensures { Gives step_of (ran_of tag.state (lent_command command.entry) (length reply.old))
         result reply.old reply.new }
 {
-    match kind {
-        4 | 5 => tag.response(kind, payload, count, reply),
+    let message = Message {
+        kind: command.kind,
+        payload: command.payload,
+        count: command.count,
+    };
+    match command.kind {
+        4 | 5 => tag.response(message, reply),
         6 => Tag::reset(reply),
-        _ => tag.command(kind, payload, count, features, book, number, reply),
+        _ => tag.command(command, reply),
     }
 }

@@ -4,6 +4,7 @@ use Rattle.std.specs.Prelude.{Bool, List, ℕ, ltb, leb}
 use Rattle.bits.specs.Area.{area_bytes}
 use Rattle.payloads.specs.Payloads.{number_limit, beyond_of}
 use Rattle.rules.specs.declared.ShownMessage.{ShownMessage}
+use Rattle.rules.specs.declared.calls as Code
 
 -- "A command call takes kind, bits, features, book and the tag's number"
 pub record Command : Type 0 where
@@ -27,6 +28,16 @@ pub record Begin : Type 0 where
   pub keyid : ℕ
   pub number : ℕ
   pub book : List ℕ
+
+-- what the code is given, whose payload and book are lent
+abbrev pub lent_command : Code.Command.Command → Command
+lent_command c = record { kind = c.kind; payload = c.payload.now; count = c.count; features = c.features; book = c.book.now; number = c.number }
+
+abbrev pub lent_message : Code.Message.Message → Message
+lent_message m = record { kind = m.kind; payload = m.payload.now; count = m.count }
+
+abbrev pub lent_begin : Code.Begin.Begin → Begin
+lent_begin b = record { method = b.method; options = b.options; keyid = b.keyid; number = b.number; book = b.book.now }
 
 -- what a message shows, to its sender or to its receiver
 abbrev pub message_shown : Message → ℕ → ShownMessage

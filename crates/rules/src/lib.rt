@@ -2,18 +2,19 @@
 // one order of refusals, and what each call is refused for. No public function has a `requires`.
 #![tactic(auto)]
 
+mod calls;
 mod order;
 pub mod reader;
 pub mod tag;
 
 ghost use Rattle.std.specs.Prelude.{◌≡◌};
 ghost use Rattle.rules.specs.Answers.{number_of, if_sound};
-ghost use Rattle.rules.specs.Calls.{message_shown};
+ghost use Rattle.rules.specs.Calls.{lent_message, message_shown};
 
+pub use calls::{Begin, Command, Message};
 use payloads::Fields;
 
-// Kinds, methods and options stay bytes: a call answers every byte (demand 1, `demand1_tag` and `demand1_reader` in `promises`).
-// These are the kinds that the rules name, and the methods.
+// The kinds that the rules name, and the methods: bytes, as in what a call is given.
 pub(crate) const AUTHENTICATION: u8 = 0;
 
 pub(crate) const COMM: u8 = 1;
@@ -162,14 +163,13 @@ pub struct ShownMessage {
     pub room: usize,
 }
 
-pub fn message_shown(kind: u8, payload: &[u8], count: usize, room: usize) -> ShownMessage
-    ensures { result ≡ message_shown (record { kind = kind; payload = payload.now; count = count }) room }
+pub fn message_shown(message: Message<'_>, room: usize) -> ShownMessage
+    ensures { result ≡ message_shown (lent_message message.entry) room }
 {
-    let beyond = payloads::beyond(payload, count);
     ShownMessage {
-        kind,
-        count,
-        beyond,
+        kind: message.kind,
+        count: message.count,
+        beyond: payloads::beyond(message.payload, message.count),
         room,
     }
 }

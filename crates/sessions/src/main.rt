@@ -5,7 +5,7 @@
 
 use rules::Answer;
 use states::{ReaderState, TagState};
-use suite::{Reader, Step, Tag};
+use suite::{Begin, Command, Message, Reader, Step, Tag};
 use text::Line;
 
 // The methods, by their numbers in a payload.
@@ -200,9 +200,14 @@ impl<'a, P: Print> Run<'a, P> {
     // ---- the reader's calls, each with its line
 
     fn begin(self, method: Method, options: u8, reply: &mut [u8]) -> Self {
-        let step = self
-            .reader
-            .begin(method as u8, options, KEYID, READER_NUMBER, &BOOK, reply);
+        let begin = Begin {
+            method: method as u8,
+            options,
+            keyid: KEYID,
+            number: READER_NUMBER,
+            book: &BOOK,
+        };
+        let step = self.reader.begin(begin, reply);
         self.after_reader(b"reader begin ", step, reply)
     }
 
@@ -212,12 +217,22 @@ impl<'a, P: Print> Run<'a, P> {
     }
 
     fn send(self, kind: u8, count: usize, reply: &mut [u8]) -> Self {
-        let step = self.reader.send(kind, &DATA, count, reply);
+        let message = Message {
+            kind,
+            payload: &DATA,
+            count,
+        };
+        let step = self.reader.send(message, reply);
         self.after_reader(b"reader send ", step, reply)
     }
 
-    fn receive(self, kind: u8, message: &[u8], reply: &mut [u8]) -> Self {
-        let step = self.reader.receive(kind, message, self.bits, reply);
+    fn receive(self, kind: u8, payload: &[u8], reply: &mut [u8]) -> Self {
+        let message = Message {
+            kind,
+            payload,
+            count: self.bits,
+        };
+        let step = self.reader.receive(message, reply);
         self.after_reader(b"reader receive ", step, reply)
     }
 
@@ -232,13 +247,26 @@ impl<'a, P: Print> Run<'a, P> {
 
     // ---- the tag's calls, each with its line
 
-    fn command(self, kind: u8, message: &[u8], reply: &mut [u8]) -> Self {
-        let step = self.tag.command(kind, message, self.bits, FEATURES, &BOOK, TAG_NUMBER, reply);
+    fn command(self, kind: u8, payload: &[u8], reply: &mut [u8]) -> Self {
+        let command = Command {
+            kind,
+            payload,
+            count: self.bits,
+            features: FEATURES,
+            book: &BOOK,
+            number: TAG_NUMBER,
+        };
+        let step = self.tag.command(command, reply);
         self.after_tag(b"tag command ", step, reply)
     }
 
     fn response(self, wanted: u8, count: usize, reply: &mut [u8]) -> Self {
-        let step = self.tag.response(wanted, &DATA, count, reply);
+        let message = Message {
+            kind: wanted,
+            payload: &DATA,
+            count,
+        };
+        let step = self.tag.response(message, reply);
         self.after_tag(b"tag response ", step, reply)
     }
 

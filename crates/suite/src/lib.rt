@@ -7,17 +7,18 @@ mod tag_work;
 mod work;
 
 ghost use Rattle.std.specs.Prelude.{◌≡◌, length};
+ghost use Rattle.rules.specs.Calls.{lent_command, lent_message, lent_begin};
 ghost use Rattle.rules.specs.Results.{Gives};
 ghost use Rattle.states.specs.TagStates.{closed_tag};
 ghost use Rattle.machines.specs.TagWork.{reset_of, command_of, response_of, error_type_of};
 ghost use Rattle.machines.specs.ReaderWork.{reader_reset, begin_of, replied_of, sending_of, receiving_of};
 ghost use Rattle.suite.specs.Steps.{step_of};
 
+pub use rules::{Begin, Command, Message};
 use rules::{Answer, Shown, ShownBegin};
 use states::{ReaderState, TagState};
 
-// A machine: its stored state, and its calls. Kinds, methods, options and features are bytes in all of them, since each call answers
-// every byte (`demand1_tag`, `demand1_reader`).
+// A machine: its stored state, and its calls.
 #[derive(Clone, Copy)]
 pub struct Machine<S> {
     pub state: S,
@@ -52,24 +53,21 @@ impl Tag {
         work::left(TagState::reset(), Answer::Done, reply)
     }
 
-    // A command: `kind` 0 authentication, 1 comm, 2 secure, 3 key update; the first `count` bits of `payload`; the tag's features,
-    // key book and number.
-    pub fn command(
-        self,
-        kind: u8,
-        payload: &[u8],
-        count: usize,
-        features: u8,
-        book: &[u8],
-        number: u64,
-        reply: &mut [u8],
-    ) -> Step<TagState>
-        ensures { Gives step_of
-            (command_of self.state (record { kind = kind; payload = payload.now; count = count; features = features; book = book.now; number = number }) (length reply.old))
+    // A command: authentication, comm, secure or key update.
+    pub fn command(self, command: Command<'_>, reply: &mut [u8]) -> Step<TagState>
+        ensures { Gives step_of (command_of self.state (lent_command command.entry) (length reply.old))
             result reply.old reply.new }
     {
         let t = self.state;
         let face = t.face();
+        let Command {
+            kind,
+            payload,
+            count,
+            features,
+            book,
+            number,
+        } = command;
         let fields = payloads::first_fields(payload);
         let key = rules::tag::key_under(kind, fields.keyid, book);
         let shown = Shown {
@@ -87,15 +85,15 @@ impl Tag {
         tag_work::carry(t, shown, key.unwrap_or(b""), payload, reply)
     }
 
-    // A response that the host wants: `kind` 4 comm, 5 secure; the first `count` bits of `data`.
-    pub fn response(self, kind: u8, data: &[u8], count: usize, reply: &mut [u8]) -> Step<TagState>
-        ensures { Gives step_of (response_of self.state (record { kind = kind; payload = «data».now; count = count }) (length reply.old))
+    // A response that the host wants: comm or secure.
+    pub fn response(self, message: Message<'_>, reply: &mut [u8]) -> Step<TagState>
+        ensures { Gives step_of (response_of self.state (lent_message message.entry) (length reply.old))
             result reply.old reply.new }
     {
         let t = self.state;
-        match verdicts::tag::response(t, kind, data, count, reply.len()) {
+        match verdicts::tag::response(t, message, reply.len()) {
             Err(refused) => work::refuse(t, refused.closes, refused.answer, reply),
-            Ok(()) => work::send(t, kind == 5, data, count, reply),
+            Ok(()) => work::send(t, message.kind == 5, message.payload, message.count, reply),
         }
     }
 
@@ -129,20 +127,19 @@ impl Reader {
         work::left(ReaderState::reset(), Answer::Done, reply)
     }
 
-    // Begins an authentication with the reader's `number`; the reply is the step 0 command.
-    pub fn begin(
-        self,
-        method: u8,
-        options: u8,
-        keyid: u8,
-        number: u64,
-        book: &[u8],
-        reply: &mut [u8],
-    ) -> Step<ReaderState>
-        ensures { Gives step_of (begin_of self.state (record { method = method; options = options; keyid = keyid; number = number; book = book.now }) (length reply.old))
+    // Begins an authentication; the reply is the step 0 command.
+    pub fn begin(self, begin: Begin<'_>, reply: &mut [u8]) -> Step<ReaderState>
+        ensures { Gives step_of (begin_of self.state (lent_begin begin.entry) (length reply.old))
             result reply.old reply.new }
     {
         let t = self.state;
+        let Begin {
+            method,
+            options,
+            keyid,
+            number,
+            book,
+        } = begin;
         let key = book::find(book, keyid);
         let shown = ShownBegin {
             method,
@@ -178,33 +175,27 @@ impl Reader {
         }
     }
 
-    // Sends the first `count` bits of `data`: `kind` 1 comm, 2 secure; the reply is the message.
-    pub fn send(self, kind: u8, data: &[u8], count: usize, reply: &mut [u8]) -> Step<ReaderState>
-        ensures { Gives step_of (sending_of self.state (record { kind = kind; payload = «data».now; count = count }) (length reply.old))
+    // Sends data, comm or secure; the reply is the message.
+    pub fn send(self, message: Message<'_>, reply: &mut [u8]) -> Step<ReaderState>
+        ensures { Gives step_of (sending_of self.state (lent_message message.entry) (length reply.old))
             result reply.old reply.new }
     {
         let t = self.state;
-        match verdicts::reader::send(t, kind, data, count, reply.len()) {
+        match verdicts::reader::send(t, message, reply.len()) {
             Err(refused) => work::refuse(t, refused.closes, refused.answer, reply),
-            Ok(()) => work::send(t, kind == 2, data, count, reply),
+            Ok(()) => work::send(t, message.kind == 2, message.payload, message.count, reply),
         }
     }
 
-    // Takes a message of the tag's in: `kind` 1 comm, 2 secure; the reply is its data.
-    pub fn receive(
-        self,
-        kind: u8,
-        payload: &[u8],
-        count: usize,
-        reply: &mut [u8],
-    ) -> Step<ReaderState>
-        ensures { Gives step_of (receiving_of self.state (record { kind = kind; payload = payload.now; count = count }) (length reply.old))
+    // Takes a message of the tag's in, comm or secure; the reply is its data.
+    pub fn receive(self, message: Message<'_>, reply: &mut [u8]) -> Step<ReaderState>
+        ensures { Gives step_of (receiving_of self.state (lent_message message.entry) (length reply.old))
             result reply.old reply.new }
     {
         let t = self.state;
-        match verdicts::reader::receive(t, kind, payload, count, reply.len()) {
+        match verdicts::reader::receive(t, message, reply.len()) {
             Err(refused) => work::refuse(t, refused.closes, refused.answer, reply),
-            Ok(()) => work::receive(t, kind == 2, payload, count, reply),
+            Ok(()) => work::receive(t, message.kind == 2, message.payload, message.count, reply),
         }
     }
 }

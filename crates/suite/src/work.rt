@@ -85,7 +85,7 @@ pub(crate) fn say<S: Copy>(o: Outcome<S>, reply: &mut [u8]) -> Step<S>
     }
 }
 
-// ---- messages
+// ---- messages, by their bits and no `Message`: its kind is spent on `secure`, and a command's payload comes here too
 
 // Sends the first `count` bits of `data`; the reply is the message.
 pub(crate) fn send<F: PublicParts>(

@@ -7,7 +7,7 @@ use faces::Name;
 use frames::Refusal;
 use states::TagState;
 use std::io::Read;
-use suite::{Step, Tag};
+use suite::{Command, Step, Tag};
 use text::Line;
 
 // The most bytes that it runs.
@@ -15,6 +15,9 @@ const MOST_BYTES: usize = 32768;
 
 // The tag's features: all of Table 5's.
 const FEATURES: u8 = 0x1F;
+
+// The tag's book: KeyID 05 and the key of Annex D's set 6.
+const BOOK: [u8; 17] = *b"\x05\x01\x23\x45\x67\x89\xAB\xCD\xEF\xFE\xDC\xBA\x98\x76\x54\x32\x10";
 
 // The tag's number, that of Annex D's set 6.
 const NUMBER: u64 = 0x778899AABBCC;
@@ -63,14 +66,15 @@ fn run(rt: &impl Print, input: &[u8]) {
                 return;
             }
             Ok(frame) => {
-                tag = run_frame(
-                    rt,
-                    tag,
-                    number,
-                    frame.kind,
-                    frames::payload(rest),
-                    frame.count,
-                );
+                let command = Command {
+                    kind: frame.kind,
+                    payload: frames::payload(rest),
+                    count: frame.count,
+                    features: FEATURES,
+                    book: &BOOK,
+                    number: NUMBER,
+                };
+                tag = run_frame(rt, tag, number, command);
                 rest = &rest[frame.end..];
             }
         }
@@ -84,20 +88,9 @@ fn fresh() -> Tag {
 }
 
 // Runs a frame and prints its line; the tag after it.
-fn run_frame(
-    rt: &impl Print,
-    tag: Tag,
-    number: u64,
-    kind: u8,
-    payload: &[u8],
-    count: usize,
-) -> Tag {
-    // KeyID 05 and the key of Annex D's set 6.
-    let book = b"\x05\x01\x23\x45\x67\x89\xAB\xCD\xEF\xFE\xDC\xBA\x98\x76\x54\x32\x10";
+fn run_frame(rt: &impl Print, tag: Tag, number: u64, frame: Command<'_>) -> Tag {
     let mut reply = [0u8; Tag::REPLY_BYTES];
-    let step = host::run(
-        tag, kind, payload, count, FEATURES, book, NUMBER, &mut reply,
-    );
+    let step = host::run(tag, frame, &mut reply);
     print_step(rt, number, step, &reply);
     step.next
 }

@@ -2,9 +2,10 @@
 #![tactic(auto, unfolding(states::specs::ReaderStates::reader_sound))]
 
 ghost use Rattle.std.specs.Prelude.{◌≡◌};
+ghost use Rattle.rules.specs.Calls.{lent_message};
 ghost use Rattle.machines.specs.ReaderWork.{begin_judged, reply_judged, send_judged, receive_judged};
 
-use rules::{ShownBegin, ShownReply, Verdict};
+use rules::{Message, ShownBegin, ShownReply, Verdict};
 use states::ReaderState;
 
 pub fn begin(r: ReaderState, p: ShownBegin) -> Verdict
@@ -19,19 +20,19 @@ pub fn replied(r: ReaderState, p: ShownReply) -> Verdict
     rules::if_sound(r.sound(), rules::reader::reply_verdict(r.face(), p))
 }
 
-pub fn send(r: ReaderState, kind: u8, data: &[u8], count: usize, room: usize) -> Verdict
-    ensures { result ≡ send_judged r (record { kind = kind; payload = «data».now; count = count }) room }
+pub fn send(r: ReaderState, message: Message<'_>, room: usize) -> Verdict
+    ensures { result ≡ send_judged r (lent_message message.entry) room }
 {
-    let shown = rules::message_shown(kind, data, count, room);
+    let shown = rules::message_shown(message, room);
     rules::if_sound(r.sound(), rules::reader::send_verdict(r.face(), shown))
 }
 
-pub fn receive(r: ReaderState, kind: u8, payload: &[u8], count: usize, room: usize) -> Verdict
-    ensures { result ≡ receive_judged r (record { kind = kind; payload = payload.now; count = count }) room }
+pub fn receive(r: ReaderState, message: Message<'_>, room: usize) -> Verdict
+    ensures { result ≡ receive_judged r (lent_message message.entry) room }
 {
     let face = r.face();
-    let shown = rules::message_shown(kind, payload, count, room);
-    let zeros = payloads::zeros(face.width, payload, count);
+    let shown = rules::message_shown(message, room);
+    let zeros = payloads::zeros(face.width, message.payload, message.count);
     rules::if_sound(
         r.sound(),
         rules::reader::receive_verdict(face, shown, zeros),

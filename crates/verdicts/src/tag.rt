@@ -2,9 +2,10 @@
 #![tactic(auto, unfolding(states::specs::TagStates::sound_of))]
 
 ghost use Rattle.std.specs.Prelude.{◌≡◌};
+ghost use Rattle.rules.specs.Calls.{lent_message};
 ghost use Rattle.machines.specs.TagWork.{command_judged, response_judged};
 
-use rules::{Shown, Verdict};
+use rules::{Message, Shown, Verdict};
 use states::TagState;
 
 pub fn command(t: TagState, p: Shown) -> Verdict
@@ -13,9 +14,9 @@ pub fn command(t: TagState, p: Shown) -> Verdict
     rules::if_sound(t.sound(), rules::tag::command_verdict(t.face(), p))
 }
 
-pub fn response(t: TagState, kind: u8, data: &[u8], count: usize, room: usize) -> Verdict
-    ensures { result ≡ response_judged t (record { kind = kind; payload = «data».now; count = count }) room }
+pub fn response(t: TagState, message: Message<'_>, room: usize) -> Verdict
+    ensures { result ≡ response_judged t (lent_message message.entry) room }
 {
-    let shown = rules::message_shown(kind, data, count, room);
+    let shown = rules::message_shown(message, room);
     rules::if_sound(t.sound(), rules::tag::response_verdict(t.face(), shown))
 }

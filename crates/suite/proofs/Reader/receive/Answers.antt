@@ -13,7 +13,7 @@ pub receive-requires-in-Ok : goal.receive-requires-in-Ok
 receive-requires-in-Ok c =
     let a = c.args in
     let g = sound_goes _ _ (sym c.receive.ensures ∙ c.in-Ok.is) in
-    let r = receive_receivable _ _ _ g.1 (reader-face-sound a.self.state g.0) (length a.payload.now) refl in
+    let r = receive_receivable _ _ _ g.1 (reader-face-sound a.self.state g.0) (length a.message.payload.now) refl in
     (receive-room _ _ _ g.1, (rw (width-stored _ r.wide r.width) r.least, (r.most, r.within)))
 
 pub returns-in-Err : goal.returns-in-Err

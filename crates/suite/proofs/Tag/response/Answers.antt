@@ -11,7 +11,7 @@ pub send-requires : goal.send-requires
 send-requires c =
     let a = c.args in
     let g = sound_goes _ _ (sym c.response.ensures ∙ c.in-Ok.is) in
-    let s = response_sendable _ _ g.1 (length a.«data».now) refl in
+    let s = response_sendable _ _ g.1 (length a.message.payload.now) refl in
     (s.roomy, (s.most, s.within))
 
 pub returns-in-Err : goal.returns-in-Err
