@@ -15,21 +15,21 @@ pub use calls::{Begin, Command, Message};
 use payloads::Fields;
 
 // The kinds that the rules name, and the methods: bytes, as in what a call is given.
-pub(crate) const AUTHENTICATION: u8 = 0;
+pub const AUTHENTICATION: u8 = 0;
 
-pub(crate) const COMM: u8 = 1;
+pub const COMM: u8 = 1;
 
-pub(crate) const SECURE: u8 = 2;
+pub const SECURE: u8 = 2;
 
-pub(crate) const COMM_RESPONSE: u8 = 4;
+pub const COMM_RESPONSE: u8 = 4;
 
-pub(crate) const SECURE_RESPONSE: u8 = 5;
+pub const SECURE_RESPONSE: u8 = 5;
 
-pub(crate) const TA: u8 = 0;
+pub const TA: u8 = 0;
 
-pub(crate) const IA: u8 = 1;
+pub const IA: u8 = 1;
 
-pub(crate) const MA: u8 = 2;
+pub const MA: u8 = 2;
 
 // What a call answers (document 01's table, in the order of its numbers).
 #[derive(Clone, Copy, PartialEq, Eq)]
@@ -70,7 +70,8 @@ pub struct Closing {
     pub support: bool,
 }
 
-// A refusal: what is answered, and whether it closes the state or keeps it.
+// A refusal: what is answered, and whether it closes the state or keeps it. A flag and no two variants, which would both hold an answer
+// for their readers to take out.
 #[derive(Clone, Copy, PartialEq, Eq)]
 pub struct Refused {
     pub closes: bool,
@@ -94,7 +95,7 @@ pub fn if_sound(sound: bool, v: Verdict) -> Verdict
 
 // ---- the tag
 
-// What a command shows of itself.
+// What a command shows of itself. `known` says that there is a key and leaves it out: the rules see no secret.
 #[derive(Clone, Copy)]
 pub struct Shown {
     pub kind: u8,

@@ -117,7 +117,7 @@ pub fn send_verdict(f: ReaderFace, p: ShownMessage) -> Verdict
     let may = may_talk(row, f, TA, p.kind);
     let keeping = Keeping {
         buffer: p.room < AREA_BYTES,
-        argument: p.beyond | !((p.kind == COMM) | (p.kind == SECURE)) | (DATA_BITS < p.count),
+        argument: p.beyond | !matches!(p.kind, COMM | SECURE) | (DATA_BITS < p.count),
         work: !may,
         ..Keeping::default()
     };
@@ -140,7 +140,7 @@ pub fn receive_verdict(f: ReaderFace, p: ShownMessage, zeros: bool) -> Verdict
     let fits = payloads::length_fits(f.width, p.count);
     let keeping = Keeping {
         buffer: p.room < AREA_BYTES,
-        argument: p.beyond | !((p.kind == COMM) | (p.kind == SECURE)),
+        argument: p.beyond | !matches!(p.kind, COMM | SECURE),
         work: !may,
         ..Keeping::default()
     };

@@ -141,7 +141,7 @@ pub fn response_verdict(f: Face, p: ShownMessage) -> Verdict
     let keeping = Keeping {
         buffer: p.room < AREA_BYTES,
         argument: p.beyond
-            | !((p.kind == COMM_RESPONSE) | (p.kind == SECURE_RESPONSE))
+            | !matches!(p.kind, COMM_RESPONSE | SECURE_RESPONSE)
             | (DATA_BITS < p.count),
         error: f.error,
         work: !row.responds,

@@ -82,6 +82,7 @@ impl Tag {
             book: book::sound(book),
             known: key.is_some(),
         };
+        // Without a key the command is refused by 5, and none is looked at.
         tag_work::carry(t, shown, key.unwrap_or(b""), payload, reply)
     }
 
@@ -92,8 +93,14 @@ impl Tag {
     {
         let t = self.state;
         match verdicts::tag::response(t, message, reply.len()) {
-            Err(refused) => work::refuse(t, refused.closes, refused.answer, reply),
-            Ok(()) => work::send(t, message.kind == 5, message.payload, message.count, reply),
+            Err(refused) => work::refuse(t, refused, reply),
+            Ok(()) => work::send(
+                t,
+                message.kind == rules::SECURE_RESPONSE,
+                message.payload,
+                message.count,
+                reply,
+            ),
         }
     }
 
@@ -132,7 +139,7 @@ impl Reader {
         ensures { Gives step_of (begin_of self.state (lent_begin begin.entry) (length reply.old))
             result reply.old reply.new }
     {
-        let t = self.state;
+        let r = self.state;
         let Begin {
             method,
             options,
@@ -149,8 +156,8 @@ impl Reader {
             known: key.is_some(),
             room: reply.len(),
         };
-        match verdicts::reader::begin(t, shown) {
-            Err(refused) => work::refuse(t, refused.closes, refused.answer, reply),
+        match verdicts::reader::begin(r, shown) {
+            Err(refused) => work::refuse(r, refused, reply),
             Ok(()) => {
                 let key = key.unwrap_or(b"");
                 let o = authentication::reader::begin(method, options, keyid, number, key);
@@ -164,12 +171,12 @@ impl Reader {
         ensures { Gives step_of (replied_of self.state payload.now count (length reply.old))
             result reply.old reply.new }
     {
-        let t = self.state;
+        let r = self.state;
         let shown = rules::reader::reply_shown(payload, count, reply.len());
-        match verdicts::reader::replied(t, shown) {
-            Err(refused) => work::refuse(t, refused.closes, refused.answer, reply),
+        match verdicts::reader::replied(r, shown) {
+            Err(refused) => work::refuse(r, refused, reply),
             Ok(()) => {
-                let o = authentication::reader::answer(t, shown.status, payload);
+                let o = authentication::reader::answer(r, shown.status, payload);
                 work::say(o, reply)
             }
         }
@@ -180,10 +187,16 @@ impl Reader {
         ensures { Gives step_of (sending_of self.state (lent_message message.entry) (length reply.old))
             result reply.old reply.new }
     {
-        let t = self.state;
-        match verdicts::reader::send(t, message, reply.len()) {
-            Err(refused) => work::refuse(t, refused.closes, refused.answer, reply),
-            Ok(()) => work::send(t, message.kind == 2, message.payload, message.count, reply),
+        let r = self.state;
+        match verdicts::reader::send(r, message, reply.len()) {
+            Err(refused) => work::refuse(r, refused, reply),
+            Ok(()) => work::send(
+                r,
+                message.kind == rules::SECURE,
+                message.payload,
+                message.count,
+                reply,
+            ),
         }
     }
 
@@ -192,10 +205,16 @@ impl Reader {
         ensures { Gives step_of (receiving_of self.state (lent_message message.entry) (length reply.old))
             result reply.old reply.new }
     {
-        let t = self.state;
-        match verdicts::reader::receive(t, message, reply.len()) {
-            Err(refused) => work::refuse(t, refused.closes, refused.answer, reply),
-            Ok(()) => work::receive(t, message.kind == 2, message.payload, message.count, reply),
+        let r = self.state;
+        match verdicts::reader::receive(r, message, reply.len()) {
+            Err(refused) => work::refuse(r, refused, reply),
+            Ok(()) => work::receive(
+                r,
+                message.kind == rules::SECURE,
+                message.payload,
+                message.count,
+                reply,
+            ),
         }
     }
 }

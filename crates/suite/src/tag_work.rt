@@ -24,7 +24,7 @@ pub(crate) fn carry(
     ensures { Gives step_of (carried_of t p key.now payload.now) result reply.old reply.new }
 {
     match verdicts::tag::command(t, p) {
-        Err(refused) => work::refuse(t, refused.closes, refused.answer, reply),
+        Err(refused) => work::refuse(t, refused, reply),
         Ok(()) => worked(t, p, key, payload, reply),
     }
 }
@@ -37,6 +37,6 @@ fn worked(t: TagState, p: Shown, key: &[u8], payload: &[u8], reply: &mut [u8]) -
     match rules::tag::command_work(face, p.kind) {
         Work::Start => work::say(tag::start(p, key, payload), reply),
         Work::Prove => work::say(tag::prove(t, p, payload), reply),
-        Work::Receive => work::receive(t, p.kind == 2, payload, p.count, reply),
+        Work::Receive => work::receive(t, p.kind == rules::SECURE, payload, p.count, reply),
     }
 }

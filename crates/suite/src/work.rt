@@ -15,7 +15,7 @@ ghost use Rattle.suite.specs.Steps.{step_of, outcome_of};
 use crate::{Machine, Step};
 use authentication::Outcome;
 use faces::{Face, PublicParts, ReaderFace};
-use rules::Answer;
+use rules::{Answer, Refused};
 use states::{ReaderState, State, TagState, session};
 
 // What closing leaves of a state: of the tag's its name and flags, of the reader's nothing, so that the reader's own door takes none.
@@ -61,16 +61,21 @@ pub(crate) fn left<S: Copy>(state: S, answer: Answer, reply: &mut [u8]) -> Step<
     }
 }
 
+// A match on the verdict stands before it in each call: what is done behind an `Ok` differs, and a closure for it would have to lend
+// the reply area on.
 pub(crate) fn refuse<F: Closes>(
     state: State<F>,
-    closes: bool,
-    answer: Answer,
+    refused: Refused,
     reply: &mut [u8],
 ) -> Step<State<F>>
-    ensures { Gives step_of (refused_by (cond closes (F.closed state) state) answer) result reply.old reply.new }
+    ensures { Gives step_of (refused_by (cond refused.closes (F.closed state) state) refused.answer) result reply.old reply.new }
 {
-    let state = if closes { F::closed(state) } else { state };
-    left(state, answer, reply)
+    let state = if refused.closes {
+        F::closed(state)
+    } else {
+        state
+    };
+    left(state, refused.answer, reply)
 }
 
 // An authentication's reply is written.
