@@ -14,8 +14,7 @@ impl ReaderState {
         ensures { result ≡ reset_reader }
     {
         let face = empty(Stage::Idle);
-        let session = session::empty();
-        State::of(face, session)
+        State::of(face, Session::default())
     }
 
     #[tactic(auto, unfolding(crate::specs::ReaderStates::closed_reader))]
@@ -23,8 +22,7 @@ impl ReaderState {
         ensures { result ≡ closed_reader }
     {
         let face = empty(Stage::Closed);
-        let session = session::empty();
-        State::of(face, session)
+        State::of(face, Session::default())
     }
 
     #[tactic(auto, unfolding(crate::specs::ReaderStates::begun_reader))]
@@ -39,8 +37,10 @@ impl ReaderState {
             number,
             width: 0,
         };
-        let s = Register { first: 0, last: 0 };
-        let engine = Engine { b: key, s };
+        let engine = Engine {
+            b: key,
+            ..Engine::default()
+        };
         let session = session::unfilled(engine);
         State::of(face, session)
     }

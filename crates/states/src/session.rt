@@ -2,7 +2,7 @@
 // must be.
 ghost use Rattle.std.specs.Prelude.{◌≡◌, not, ◌||◌, ◌^◌, eqb, ltb, take};
 ghost use Rattle.bits.specs.Bytes.{bits_of_bytes, with_front};
-ghost use Rattle.states.specs.Sessions.{method_of, chosen_width, stored_width, key_in, begun_engine, after_message, body_of, data_of, sent_session, with_engine, unfilled, empty_session, empty_engine, session_fits};
+ghost use Rattle.states.specs.Sessions.{method_of, chosen_width, stored_width, key_in, begun_engine, after_message, body_of, data_of, sent_session, with_engine, unfilled, empty_engine, session_fits};
 
 use grain::{Engine, Method, Register, Session, Width};
 
@@ -94,18 +94,8 @@ pub(crate) fn unfilled(engine: Engine) -> Session
 {
     Session {
         engine,
-        acc: 0,
-        reg: 0,
+        ..Session::default()
     }
-}
-
-pub(crate) fn empty() -> Session
-    ensures { result ≡ empty_session }
-{
-    let b = Register { first: 0, last: 0 };
-    let s = Register { first: 0, last: 0 };
-    let engine = Engine { b, s };
-    unfilled(engine)
 }
 
 // Whether a session fits a state of this width, which may hold nothing where it is bare. What must be zero is gathered in one word,

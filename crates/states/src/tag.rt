@@ -14,8 +14,7 @@ impl TagState {
         ensures { result ≡ reset_tag }
     {
         let face = bare(Name::CsReset, false, false, false, false);
-        let session = session::empty();
-        State::of(face, session)
+        State::of(face, Session::default())
     }
 
     #[tactic(auto, unfolding(crate::specs::TagStates::closed_tag))]
@@ -24,8 +23,7 @@ impl TagState {
     {
         let f = self.face();
         let face = bare(f.name, f.init, f.ta, f.ia, true);
-        let session = session::empty();
-        State::of(face, session)
+        State::of(face, Session::default())
     }
 
     // After a failed comparison in step 1, of MA or else of IA.
@@ -35,8 +33,7 @@ impl TagState {
     {
         let name = if both { Name::Ma2 } else { Name::Ia2 };
         let face = bare(name, true, false, false, true);
-        let session = session::empty();
-        State::of(face, session)
+        State::of(face, Session::default())
     }
 
     // After step 0 of MA, or else of IA.
