@@ -45,7 +45,7 @@ impl ReaderState {
         State::of(face, session)
     }
 
-    // The response to step 0 has filled the session: open, or else step 1 sent.
+    // The response to step 0 has filled the session: open, or else step 1 sent, by a flag as in `filled_reader`.
     #[tactic(auto, unfolding(crate::specs::ReaderStates::filled_reader))]
     pub fn filled(self, opens: bool, session: Session) -> ReaderState
         ensures { result ≡ filled_reader opens self session }

@@ -26,7 +26,7 @@ impl TagState {
         State::of(face, Session::default())
     }
 
-    // After a failed comparison in step 1, of MA or else of IA.
+    // After a failed comparison in step 1, of MA or else of IA: a flag here and in `begun`, as `failed_tag` and `begun_tag` have it.
     #[tactic(auto, unfolding(crate::specs::TagStates::failed_tag))]
     pub fn failed(both: bool) -> TagState
         ensures { result ≡ failed_tag both }
