@@ -1,15 +1,17 @@
 // The reader's begin, and what it does with an authentication response.
-ghost use Rattle.std.specs.Prelude.{◌≡◌};
-ghost use Rattle.bits.specs.Bytes.{bits_of_bytes};
+ghost use Rattle.std.specs.Prelude.{◌≡◌, eqb};
+ghost use Rattle.bits.specs.Bytes.{bits_of_bytes, field_of};
+ghost use Rattle.payloads.specs.declared.Payload.TheVariants.{Nothing};
 ghost use Rattle.rules.specs.ReaderRules.{reply_work};
-ghost use Rattle.states.specs.ReaderStates.{reader_face_of};
+ghost use Rattle.rules.specs.Results.{differed};
+ghost use Rattle.states.specs.ReaderStates.{reader_face_of, closed_reader};
 ghost use Rattle.machines.specs.ReaderWork.{begin_options, begun_by, answer_session, matched, compare_of, answer_of, accept_of, confirm_of, answered_by};
 ghost use Rattle.authentication.specs.Outcomes.{handed};
 
 use crate::Outcome;
 use grain::Session;
 use payloads::Payload;
-use rules::{Answer, ReplyWork};
+use rules::ReplyWork;
 use states::{ReaderState, session};
 
 // The step 0 command, and the reader that has sent it.
@@ -17,16 +19,13 @@ pub fn begin(method: u8, options: u8, keyid: u8, number: u64, key: &[u8]) -> Out
     ensures { result ≡ handed (begun_by method options keyid number key.now) }
 {
     let next = ReaderState::begun(method, options, keyid, number, session::key_in(key));
-    Outcome {
-        next,
-        answer: Answer::Done,
-        reply: Payload::StepZero {
-            method,
-            options: begin_options(method, options),
-            keyid,
-            number,
-        },
-    }
+    let reply = Payload::StepZero {
+        method,
+        options: begin_options(method, options),
+        keyid,
+        number,
+    };
+    Outcome::reached(next, reply)
 }
 
 fn begin_options(method: u8, options: u8) -> u8
@@ -43,7 +42,7 @@ pub fn answer(r: ReaderState, status: u8, payload: &[u8]) -> Outcome<ReaderState
     match rules::reader::reply_work(face, status) {
         ReplyWork::Compare => compare(r, payload),
         ReplyWork::Answer => prove(r, payload),
-        ReplyWork::Fail => compared(false, r),
+        ReplyWork::Fail => failed(),
         ReplyWork::Accept => accept(r),
         ReplyWork::Confirm => confirm(r, payload),
     }
@@ -60,22 +59,22 @@ fn answer_session(r: ReaderState, payload: &[u8]) -> Session
     e.fill(session::chosen_width(face.options))
 }
 
-// The reader that a comparison of 64 keystream bits leaves: `next` where they are the same.
-fn compared(same: bool, next: ReaderState) -> Outcome<ReaderState>
-    ensures { result ≡ handed (matched same next) }
+fn failed() -> Outcome<ReaderState>
+    ensures { result ≡ handed (differed closed_reader Nothing) }
 {
-    if same {
-        return Outcome {
-            next,
-            answer: Answer::Done,
-            reply: Payload::Nothing,
-        };
+    Outcome::differed(ReaderState::closed(), Payload::Nothing)
+}
+
+// The reader that the comparison of 64 keystream bits leaves, with those at `at` in a response: `next` where they are the same.
+#[tactic(auto, unfolding(machines::specs::ReaderWork::matched))]
+fn compared(word: u64, payload: &[u8], at: usize, next: ReaderState) -> Outcome<ReaderState>
+    ensures { result ≡ handed (matched (eqb word (field_of at 64 (bits_of_bytes payload.now))) next) }
+{
+    let given = bits::field(payload, at, 64);
+    if word == given {
+        return Outcome::reached(next, Payload::Nothing);
     }
-    Outcome {
-        next: ReaderState::closed(),
-        answer: Answer::Mismatch,
-        reply: Payload::Nothing,
-    }
+    failed()
 }
 
 fn compare(r: ReaderState, payload: &[u8]) -> Outcome<ReaderState>
@@ -83,9 +82,8 @@ fn compare(r: ReaderState, payload: &[u8]) -> Outcome<ReaderState>
 {
     let x = answer_session(r, payload);
     let ks = x.engine.keystream();
-    let given = bits::field(payload, 56, 64);
     let next = r.filled(true, session::with_engine(x, ks.engine));
-    compared(ks.word == given, next)
+    compared(ks.word, payload, 56, next)
 }
 
 // The step 1 command.
@@ -96,23 +94,20 @@ fn prove(r: ReaderState, payload: &[u8]) -> Outcome<ReaderState>
     let x = answer_session(r, payload);
     let ks = x.engine.keystream();
     let next = r.filled(false, session::with_engine(x, ks.engine));
-    Outcome {
-        next,
-        answer: Answer::Done,
-        reply: Payload::StepOne {
-            method: face.method,
-            options: face.options,
-            keyid: face.keyid,
-            keystream: ks.word,
-        },
-    }
+    let reply = Payload::StepOne {
+        method: face.method,
+        options: face.options,
+        keyid: face.keyid,
+        keystream: ks.word,
+    };
+    Outcome::reached(next, reply)
 }
 
 fn accept(r: ReaderState) -> Outcome<ReaderState>
     ensures { result ≡ handed (accept_of r) }
 {
     let next = r.opened(r.session());
-    compared(true, next)
+    Outcome::reached(next, Payload::Nothing)
 }
 
 fn confirm(r: ReaderState, payload: &[u8]) -> Outcome<ReaderState>
@@ -120,7 +115,6 @@ fn confirm(r: ReaderState, payload: &[u8]) -> Outcome<ReaderState>
 {
     let x = r.session();
     let ks = x.engine.keystream();
-    let given = bits::field(payload, 1, 64);
     let next = r.opened(session::with_engine(x, ks.engine));
-    compared(ks.word == given, next)
+    compared(ks.word, payload, 1, next)
 }

@@ -1,12 +1,13 @@
 // The tag's two steps.
 ghost use Rattle.std.specs.Prelude.{◌≡◌};
 ghost use Rattle.machines.specs.TagWork.{ta_started, challenged, started_by, start_of, failed, interrogator_proved, mutually_proved, proved_by, prove_of};
+ghost use Rattle.states.specs.Sessions.{chosen_width, filled_session};
 ghost use Rattle.authentication.specs.Outcomes.{handed};
 
 use crate::Outcome;
 use grain::{Engine, Method, Session};
 use payloads::Payload;
-use rules::{Answer, Shown};
+use rules::Shown;
 use states::{TagState, session};
 
 // ---- step 0
@@ -16,66 +17,51 @@ pub fn start(p: Shown, key: &[u8], payload: &[u8]) -> Outcome<TagState>
     ensures { result ≡ handed (start_of p key.now payload.now) }
 {
     let reader = bits::field(payload, 16, 48);
-    let fields = p.fields;
-    let method = fields.method;
-    let engine = session::begin(session::key_in(key), method, reader, p.number);
-    started(
-        method,
-        fields.keyid,
-        fields.options,
-        p.features,
-        p.number,
-        engine,
-    )
+    let engine = session::begin(session::key_in(key), p.fields.method, reader, p.number);
+    started(p, engine)
 }
 
-fn started(
-    method: u8,
-    keyid: u8,
-    options: u8,
-    features: u8,
-    number: u64,
-    e: Engine,
-) -> Outcome<TagState>
-    ensures { result ≡ handed (started_by method keyid options features number e) }
+#[tactic(auto, unfolding(machines::specs::TagWork::started_by))]
+fn started(p: Shown, e: Engine) -> Outcome<TagState>
+    ensures { result ≡ handed (started_by p.fields.method p.fields.keyid p.fields.options p.features p.number e) }
 {
-    if method == 0 {
-        let x = e.fill(session::chosen_width(options));
-        return ta_started(keyid, options, features, number, x);
+    match p.fields.method {
+        0 => ta_started(p, e),
+        1 => challenge(false, p, e),
+        _ => challenge(true, p, e),
     }
-    challenge(method != 1, keyid, features, number, e)
 }
 
-fn ta_started(keyid: u8, options: u8, features: u8, number: u64, x: Session) -> Outcome<TagState>
-    ensures { result ≡ handed (ta_started keyid options features number x) }
+fn ta_started(p: Shown, e: Engine) -> Outcome<TagState>
+    ensures { result ≡ handed (ta_started p.fields.keyid p.fields.options p.features p.number (filled_session (chosen_width p.fields.options) e)) }
 {
+    let fields = p.fields;
+    let x = e.fill(session::chosen_width(fields.options));
     let ks = x.engine.keystream();
     let next = TagState::opened(
         Method::Ta,
-        keyid,
-        options,
+        fields.keyid,
+        fields.options,
         session::with_engine(x, ks.engine),
     );
-    Outcome {
-        next,
-        answer: Answer::Done,
-        reply: Payload::TagProof {
-            features,
-            number,
-            keystream: ks.word,
-        },
-    }
+    let reply = Payload::TagProof {
+        features: p.features,
+        number: p.number,
+        keystream: ks.word,
+    };
+    Outcome::reached(next, reply)
 }
 
-fn challenge(both: bool, keyid: u8, features: u8, number: u64, e: Engine) -> Outcome<TagState>
-    ensures { result ≡ handed (challenged both keyid features number e) }
+// Of MA where `both`, and else of IA: a flag and no `Method`, as `challenged`, `failed_tag` and `begun_tag` have it.
+fn challenge(both: bool, p: Shown, e: Engine) -> Outcome<TagState>
+    ensures { result ≡ handed (challenged both p.fields.keyid p.features p.number e) }
 {
-    let next = TagState::begun(both, keyid, e);
-    Outcome {
-        next,
-        answer: Answer::Done,
-        reply: Payload::TagChallenge { features, number },
-    }
+    let next = TagState::begun(both, p.fields.keyid, e);
+    let reply = Payload::TagChallenge {
+        features: p.features,
+        number: p.number,
+    };
+    Outcome::reached(next, reply)
 }
 
 // ---- step 1
@@ -122,31 +108,18 @@ fn mutually_proved(keyid: u8, options: u8, e: Engine, x: Session) -> Outcome<Tag
         options,
         session::with_engine(x, ks.engine),
     );
-    Outcome {
-        next,
-        answer: Answer::Done,
-        reply: Payload::MutualProof(ks.word),
-    }
+    Outcome::reached(next, Payload::MutualProof(ks.word))
 }
 
 fn interrogator_proved(keyid: u8, options: u8, e: Engine, x: Session) -> Outcome<TagState>
     ensures { result ≡ handed (interrogator_proved keyid options e x) }
 {
     let next = TagState::opened(Method::Ia, keyid, options, session::with_engine(x, e));
-    Outcome {
-        next,
-        answer: Answer::Done,
-        reply: Payload::Status(0),
-    }
+    Outcome::reached(next, Payload::Status(0))
 }
 
 fn fail(both: bool) -> Outcome<TagState>
     ensures { result ≡ handed (failed both) }
 {
-    let next = TagState::failed(both);
-    Outcome {
-        next,
-        answer: Answer::Mismatch,
-        reply: Payload::Status(1),
-    }
+    Outcome::differed(TagState::failed(both), Payload::Status(1))
 }

@@ -19,7 +19,8 @@ pub trait Block: Copy {
 
     const BYTES: usize;
 
-    // Whether a block spells a state. A state that it spells may still be against the rules.
+    // Whether a block spells a state. A state that it spells may still be against the rules. Beside `spelled`, as it and `read` answer
+    // every block, and are promised by themselves (`spells-tag`, `read-tag` in `determined`, and those of the reader).
     fn spells(block: &[u8]) -> bool
         ensures { result ≡ blocks.spells block.now };
 

@@ -63,6 +63,7 @@ impl Block for ReaderState {
     ghost sized = { reader_sized };
 }
 
+// Some stage of every byte, as `stage_of` says, since `read` answers every block.
 #[tactic(auto, unfolding(crate::specs::Blocks::stage_of))]
 fn stage(n: u8) -> Stage
     ensures { result ≡ stage_of n }

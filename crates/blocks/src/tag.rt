@@ -65,6 +65,7 @@ impl Block for TagState {
     ghost sized = { tag_sized };
 }
 
+// Some name of every byte, as `name_of` says, since `read` answers every block.
 #[tactic(auto, unfolding(crate::specs::Blocks::name_of))]
 fn name(n: u8) -> Name
     ensures { result ≡ name_of n }

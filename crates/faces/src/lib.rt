@@ -5,7 +5,8 @@
 pub mod reader;
 pub mod tag;
 
-ghost use Rattle.std.specs.Prelude.{◌≡◌, Bool, ℕ};
+ghost use Rattle.std.specs.Prelude.{◌≡◌, Bool, cond, ℕ};
+ghost use Rattle.payloads.specs.Payloads.{mac_bits};
 ghost use Rattle.faces.specs.TagFaces.{name_number, name_numbered};
 ghost use Rattle.faces.specs.ReaderFaces.{stage_number, stage_numbered};
 
@@ -30,6 +31,17 @@ pub trait PublicParts: Copy {
     // The bits that accumulator and register have: 0 where they are not filled.
     fn width(self) -> u8
         ensures { result ≡ width self };
+}
+
+// The width that the public parts of a state ask for: where accumulator and register are filled, as options bit 0 says.
+fn width_where(filled: bool, options: u8) -> u8
+    ensures { result ≡ cond filled (mac_bits options) 0 }
+{
+    if filled {
+        payloads::mac_bits(options)
+    } else {
+        0
+    }
 }
 
 // ---- the tag
@@ -60,8 +72,9 @@ pub struct Face {
 }
 
 // A row of document 01's table of states; `specs/TagFaces.antt` says what each column is. Method and step are numbers, as the bits
-// of a command are that they are held against, and 3 is that of none.
-#[derive(Clone, Copy, PartialEq, Eq)]
+// of a command are that they are held against, and 3 is that of none: a command's two bits can be 3, too, but where a state waits for
+// no authentication `bits` is 0, and the command is refused before, by its kind.
+#[derive(Clone, Copy, Default, PartialEq, Eq)]
 pub struct Row {
     pub init: bool,
     pub ta: bool,
@@ -101,8 +114,9 @@ pub struct ReaderFace {
     pub width: u8,
 }
 
-// Where a stage stands: all false where it is closed.
-#[derive(Clone, Copy, PartialEq, Eq)]
+// Where a stage stands: all false where it is closed. Flags beside the enum, as the definitions of `rules`, `machines` and `promises`
+// cite `stage_row` and its columns.
+#[derive(Clone, Copy, Default, PartialEq, Eq)]
 pub struct StageRow {
     pub idle: bool,
     pub asked: bool,
@@ -110,7 +124,7 @@ pub struct StageRow {
     pub opened: bool,
 }
 
-// ---- the numbers of both
+// ---- the numbers of both; written out, as no derive gives a `From` or a `TryFrom` what `from_gives` and `try_from_gives` say
 
 impl From<Name> for u8 {
     ghost from_gives = { λ name n. n ≡ name_number name };

@@ -9,23 +9,25 @@ use payloads::NUMBER_LIMIT;
 pub fn stage_row(stage: Stage) -> StageRow
     ensures { result ≡ stage_row stage }
 {
+    let closed = StageRow::default();
     match stage {
-        Stage::Idle => row(true, false, false, false),
-        Stage::Step0Sent => row(false, true, false, false),
-        Stage::Step1Sent => row(false, false, true, false),
-        Stage::Open => row(false, false, false, true),
-        Stage::Closed => row(false, false, false, false),
-    }
-}
-
-fn row(idle: bool, asked: bool, proving: bool, opened: bool) -> StageRow
-    ensures { result ≡ record { idle = idle; asked = asked; proving = proving; opened = opened } }
-{
-    StageRow {
-        idle,
-        asked,
-        proving,
-        opened,
+        Stage::Idle => StageRow {
+            idle: true,
+            ..closed
+        },
+        Stage::Step0Sent => StageRow {
+            asked: true,
+            ..closed
+        },
+        Stage::Step1Sent => StageRow {
+            proving: true,
+            ..closed
+        },
+        Stage::Open => StageRow {
+            opened: true,
+            ..closed
+        },
+        Stage::Closed => closed,
     }
 }
 
@@ -67,10 +69,5 @@ impl PublicParts for ReaderFace {
 fn width_wanted(row: StageRow, options: u8) -> u8
     ensures { result ≡ reader_width row options }
 {
-    let filled = row.proving | row.opened;
-    if filled {
-        payloads::mac_bits(options)
-    } else {
-        0
-    }
+    crate::width_where(row.proving | row.opened, options)
 }

@@ -9,32 +9,29 @@ pub fn row_of(name: Name) -> Row
     ensures { result ≡ row_of name }
 {
     match name {
-        Name::CsReset => waiting(false, 3, 0, 64),
+        Name::CsReset => Row {
+            method: 3,
+            bits: 64,
+            ..Row::default()
+        },
         Name::Ta1 => opened(true, false),
-        Name::Ia1 => waiting(true, 1, 1, 80),
+        Name::Ia1 => proving(1),
         Name::Ia2 => opened(false, true),
-        Name::Ma1 => waiting(true, 2, 1, 80),
+        Name::Ma1 => proving(2),
         Name::Ma2 => opened(true, true),
     }
 }
 
-// A state that waits for an authentication takes nothing else.
-fn waiting(init: bool, method: u8, step: u8, bits: usize) -> Row
-    ensures { result ≡ record { init = init; ta = false; ia = false; fails = false; filled = false; method = method; step = step; bits = bits; comm = false; idle = false; secure = false; responds = false } }
+// A state that waits for its method's step 1 takes nothing else, as CS-Reset takes nothing but step 0.
+fn proving(method: u8) -> Row
+    ensures { result ≡ record { init = true; ta = false; ia = false; fails = false; filled = false; method = method; step = 1; bits = 80; comm = false; idle = false; secure = false; responds = false } }
 {
     Row {
-        init,
-        ta: false,
-        ia: false,
-        fails: false,
-        filled: false,
+        init: true,
         method,
-        step,
-        bits,
-        comm: false,
-        idle: false,
-        secure: false,
-        responds: false,
+        step: 1,
+        bits: 80,
+        ..Row::default()
     }
 }
 
@@ -50,11 +47,11 @@ fn opened(ta: bool, ia: bool) -> Row
         filled: true,
         method: 3,
         step: 3,
-        bits: 0,
         comm: ia,
         idle: !ia,
         secure: ta & ia,
         responds: ta,
+        ..Row::default()
     }
 }
 
@@ -97,12 +94,7 @@ fn flags_fit(row: Row, f: Face) -> bool
 fn width_wanted(row: Row, error: bool, options: u8) -> u8
     ensures { result ≡ width_wanted row error options }
 {
-    let filled = row.filled & !error;
-    if filled {
-        payloads::mac_bits(options)
-    } else {
-        0
-    }
+    crate::width_where(row.filled & !error, options)
 }
 
 // Whose step 1 a state waits for.

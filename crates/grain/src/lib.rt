@@ -33,21 +33,21 @@ pub enum Width {
 
 // 128 bits: bit 0 is the highest of `first`. What holds a key or what is made of one derives no `==`, which would branch on secrets,
 // and no `Debug`, which would print them.
-#[derive(Clone, Copy)]
+#[derive(Clone, Copy, Default)]
 pub struct Register {
     pub first: u64,
     pub last: u64,
 }
 
 // The NFSR b and the LFSR s.
-#[derive(Clone, Copy)]
+#[derive(Clone, Copy, Default)]
 pub struct Engine {
     pub b: Register,
     pub s: Register,
 }
 
 // A generator with the MAC's accumulator and shift register, each a number of w bits.
-#[derive(Clone, Copy)]
+#[derive(Clone, Copy, Default)]
 pub struct Session {
     pub engine: Engine,
     pub acc: u64,

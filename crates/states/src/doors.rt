@@ -53,9 +53,6 @@ impl<F: PublicParts> State<F> {
     pub fn with_session(self, session: Session) -> State<F>
         ensures { result ≡ with_session self session }
     {
-        State {
-            face: self.face,
-            session,
-        }
+        State { session, ..self }
     }
 }

@@ -1,7 +1,6 @@
 // The reader's stored state.
-ghost use Rattle.std.specs.Prelude.{◌≡◌, cond};
-ghost use Rattle.faces.specs.declared.Stage.TheVariants.{Open, Step1Sent};
-ghost use Rattle.states.specs.ReaderStates.{empty_reader_face, moved_face, reset_reader, closed_reader, begun_reader, filled_reader, opened_reader};
+ghost use Rattle.std.specs.Prelude.{◌≡◌};
+ghost use Rattle.states.specs.ReaderStates.{empty_reader_face, reset_reader, closed_reader, begun_reader, filled_reader, opened_reader};
 
 use crate::{State, session};
 use faces::{ReaderFace, Stage};
@@ -15,8 +14,7 @@ impl ReaderState {
         ensures { result ≡ reset_reader }
     {
         let face = empty(Stage::Idle);
-        let session = session::empty();
-        State::of(face, session)
+        State::of(face, Session::default())
     }
 
     #[tactic(auto, unfolding(crate::specs::ReaderStates::closed_reader))]
@@ -24,8 +22,7 @@ impl ReaderState {
         ensures { result ≡ closed_reader }
     {
         let face = empty(Stage::Closed);
-        let session = session::empty();
-        State::of(face, session)
+        State::of(face, Session::default())
     }
 
     #[tactic(auto, unfolding(crate::specs::ReaderStates::begun_reader))]
@@ -40,21 +37,23 @@ impl ReaderState {
             number,
             width: 0,
         };
-        let s = Register { first: 0, last: 0 };
-        let engine = Engine { b: key, s };
+        let engine = Engine {
+            b: key,
+            ..Engine::default()
+        };
         let session = session::unfilled(engine);
         State::of(face, session)
     }
 
-    // The response to step 0 has filled the session: open, or else step 1 sent.
+    // The response to step 0 has filled the session: open, or else step 1 sent, by a flag as in `filled_reader`.
     #[tactic(auto, unfolding(crate::specs::ReaderStates::filled_reader))]
     pub fn filled(self, opens: bool, session: Session) -> ReaderState
         ensures { result ≡ filled_reader opens self session }
     {
         let f = self.face();
-        let stage = filled_stage(opens);
+        let stage = if opens { Stage::Open } else { Stage::Step1Sent };
         let width = payloads::mac_bits(f.options);
-        let face = moved(stage, width, f);
+        let face = ReaderFace { stage, width, ..f };
         State::of(face, session)
     }
 
@@ -63,18 +62,13 @@ impl ReaderState {
     pub fn opened(self, session: Session) -> ReaderState
         ensures { result ≡ opened_reader self session }
     {
-        let f = self.face();
-        let face = moved(Stage::Open, f.width, f);
+        let stage = Stage::Open;
+        let face = ReaderFace {
+            stage,
+            ..self.face()
+        };
         State::of(face, session)
     }
-}
-
-// ---- faces
-
-fn filled_stage(opens: bool) -> Stage
-    ensures { result ≡ cond opens Open Step1Sent }
-{
-    if opens { Stage::Open } else { Stage::Step1Sent }
 }
 
 // Nothing but the stage.
@@ -89,10 +83,4 @@ fn empty(stage: Stage) -> ReaderFace
         number: 0,
         width: 0,
     }
-}
-
-fn moved(stage: Stage, width: u8, f: ReaderFace) -> ReaderFace
-    ensures { result ≡ moved_face stage width f }
-{
-    ReaderFace { stage, width, ..f }
 }

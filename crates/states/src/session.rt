@@ -2,7 +2,7 @@
 // must be.
 ghost use Rattle.std.specs.Prelude.{◌≡◌, not, ◌||◌, ◌^◌, eqb, ltb, take};
 ghost use Rattle.bits.specs.Bytes.{bits_of_bytes, with_front};
-ghost use Rattle.states.specs.Sessions.{method_of, chosen_width, stored_width, key_in, begun_engine, after_message, body_of, data_of, sent_session, with_engine, unfilled, empty_session, empty_engine, session_fits};
+ghost use Rattle.states.specs.Sessions.{method_of, chosen_width, stored_width, key_in, begun_engine, after_message, body_of, data_of, sent_session, with_engine, unfilled, empty_engine, session_fits};
 
 use grain::{Engine, Method, Register, Session, Width};
 
@@ -10,11 +10,7 @@ use grain::{Engine, Method, Register, Session, Width};
 pub fn chosen_width(options: u8) -> Width
     ensures { result ≡ chosen_width options }
 {
-    if options % 2 == 1 {
-        Width::Mac64
-    } else {
-        Width::Mac32
-    }
+    stored_width(payloads::mac_bits(options))
 }
 
 // The MAC of a stored width. No `TryFrom`: a face may hold any byte, and `stored_width` says something of each.
@@ -36,7 +32,7 @@ pub fn key_in(key: &[u8]) -> Register
     Register { first, last }
 }
 
-// The engine that a key and the two numbers start.
+// The engine that a key, a method and the two numbers start, at either machine.
 #[tactic(auto, unfolding(crate::specs::Sessions::begun_engine))]
 pub fn begin(key: Register, method: u8, reader: u64, tag: u64) -> Engine
     ensures { result ≡ begun_engine key method reader tag }
@@ -46,7 +42,7 @@ pub fn begin(key: Register, method: u8, reader: u64, tag: u64) -> Engine
     e.start()
 }
 
-// No `TryFrom` either: a stored method may be any byte.
+// The method of a stored byte: 0 is TA, 1 is IA, any other is MA. No `TryFrom`, as a face may hold any byte.
 #[tactic(auto, unfolding(crate::specs::Sessions::method_of))]
 fn method_of(method: u8) -> Method
     ensures { result ≡ method_of method }
@@ -72,7 +68,8 @@ pub fn send(x: Session, width: Width, secure: bool, bytes: &mut [u8], count: usi
     x.authenticate(width, bytes, count)
 }
 
-// The first `count` bits of `bytes`, as they came, become their data where they stand.
+// The first `count` bits of `bytes`, as they came, become their data where they stand. Beside `send`, as its clause is another: the
+// accumulator goes over the bits that came, and what is left is `data_of`, not `body_of`.
 pub fn receive(x: Session, width: Width, secure: bool, bytes: &mut [u8], count: usize) -> Session
     ensures { (result ≡ after_message width (take count (bits_of_bytes bytes.old)) x)
         × (bytes.new ≡ with_front count (data_of width secure (take count (bits_of_bytes bytes.old)) x) bytes.old) }
@@ -97,18 +94,8 @@ pub(crate) fn unfilled(engine: Engine) -> Session
 {
     Session {
         engine,
-        acc: 0,
-        reg: 0,
+        ..Session::default()
     }
-}
-
-pub(crate) fn empty() -> Session
-    ensures { result ≡ empty_session }
-{
-    let b = Register { first: 0, last: 0 };
-    let s = Register { first: 0, last: 0 };
-    let engine = Engine { b, s };
-    unfilled(engine)
 }
 
 // Whether a session fits a state of this width, which may hold nothing where it is bare. What must be zero is gathered in one word,

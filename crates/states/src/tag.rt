@@ -1,5 +1,5 @@
 // The tag's stored state.
-ghost use Rattle.std.specs.Prelude.{◌≡◌, cond};
+ghost use Rattle.std.specs.Prelude.{◌≡◌};
 ghost use Rattle.states.specs.TagStates.{bare_face, open_face, open_by, reset_tag, closed_tag, failed_tag, begun_tag, open_tag};
 
 use crate::{State, session};
@@ -14,8 +14,7 @@ impl TagState {
         ensures { result ≡ reset_tag }
     {
         let face = bare(Name::CsReset, false, false, false, false);
-        let session = session::empty();
-        State::of(face, session)
+        State::of(face, Session::default())
     }
 
     #[tactic(auto, unfolding(crate::specs::TagStates::closed_tag))]
@@ -23,21 +22,18 @@ impl TagState {
         ensures { result ≡ closed_tag self }
     {
         let f = self.face();
-        let name = f.name;
-        let face = bare(name, f.init, f.ta, f.ia, true);
-        let session = session::empty();
-        State::of(face, session)
+        let face = bare(f.name, f.init, f.ta, f.ia, true);
+        State::of(face, Session::default())
     }
 
-    // After a failed comparison in step 1, of MA or else of IA.
+    // After a failed comparison in step 1, of MA or else of IA: a flag here and in `begun`, as `failed_tag` and `begun_tag` have it.
     #[tactic(auto, unfolding(crate::specs::TagStates::failed_tag))]
     pub fn failed(both: bool) -> TagState
         ensures { result ≡ failed_tag both }
     {
-        let name = pick(both, Name::Ma2, Name::Ia2);
+        let name = if both { Name::Ma2 } else { Name::Ia2 };
         let face = bare(name, true, false, false, true);
-        let session = session::empty();
-        State::of(face, session)
+        State::of(face, Session::default())
     }
 
     // After step 0 of MA, or else of IA.
@@ -45,16 +41,10 @@ impl TagState {
     pub fn begun(both: bool, keyid: u8, engine: Engine) -> TagState
         ensures { result ≡ begun_tag both keyid engine }
     {
-        let name = pick(both, Name::Ma1, Name::Ia1);
+        let name = if both { Name::Ma1 } else { Name::Ia1 };
         let face = Face {
-            name,
-            init: true,
-            ta: false,
-            ia: false,
-            error: false,
             keyid,
-            options: 0,
-            width: 0,
+            ..bare(name, true, false, false, false)
         };
         let session = session::unfilled(engine);
         State::of(face, session)
@@ -71,12 +61,6 @@ impl TagState {
 }
 
 // ---- faces
-
-fn pick(first: bool, a: Name, b: Name) -> Name
-    ensures { result ≡ cond first a b }
-{
-    if first { a } else { b }
-}
 
 // Everything zero but name and flags.
 fn bare(name: Name, init: bool, ta: bool, ia: bool, error: bool) -> Face
@@ -108,13 +92,9 @@ fn open_face(name: Name, ta: bool, ia: bool, keyid: u8, options: u8) -> Face
     ensures { result ≡ open_face name ta ia keyid options }
 {
     Face {
-        name,
-        init: true,
-        ta,
-        ia,
-        error: false,
         keyid,
         options,
         width: payloads::mac_bits(options),
+        ..bare(name, true, ta, ia, false)
     }
 }

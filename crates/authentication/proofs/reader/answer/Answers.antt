@@ -2,7 +2,7 @@
 use mathlib.Core.Path.{◌≡◌, sym}
 use Prim.Native.Nat.{ℕ}
 use Rattle.faces.specs.declared.ReaderFace.{ReaderFace}
-use Rattle.machines.specs.ReaderWork.{matched, answered_by}
+use Rattle.machines.specs.ReaderWork.{answered_by}
 use Rattle.rules.specs.ReaderRules.{reply_work}
 use Rattle.states.specs.ReaderStates.{ReaderState, reader_face_of}
 use Rattle.rules.specs.declared.ReplyWork.{ReplyWork}
@@ -21,8 +21,8 @@ unfolding answered_by
 returns-in-Answer c = rw (planned c.args.r _ _ _ c.face-face.ensures c.in-Answer.ensures) c.prove.ensures
 
 pub returns-in-Fail : goal.returns-in-Fail
-unfolding answered_by matched
-returns-in-Fail c = rw (planned c.args.r _ _ _ c.face-face.ensures c.in-Fail.ensures) c.compared.ensures
+unfolding answered_by
+returns-in-Fail c = rw (planned c.args.r _ _ _ c.face-face.ensures c.in-Fail.ensures) c.failed.ensures
 
 pub returns-in-Accept : goal.returns-in-Accept
 unfolding answered_by

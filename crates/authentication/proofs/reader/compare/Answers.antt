@@ -5,4 +5,4 @@ use Rattle.authentication.proofs.reader.compare.Goals as goal
 
 pub returns : goal.returns
 unfolding compare_of next_keystream
-returns c = rw (c.filled-next.ensures, c.with_engine.ensures, c.field-given.ensures, c.keystream-ks.ensures, c.answer_session-x.ensures) at c.compared.ensures
+returns c = rw (c.filled-next.ensures, c.with_engine.ensures, c.keystream-ks.ensures, c.answer_session-x.ensures) at c.compared.ensures

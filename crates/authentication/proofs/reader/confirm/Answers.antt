@@ -5,4 +5,4 @@ use Rattle.authentication.proofs.reader.confirm.Goals as goal
 
 pub returns : goal.returns
 unfolding confirm_of next_keystream
-returns c = rw (c.opened-next.ensures, c.with_engine.ensures, c.field-given.ensures, c.keystream-ks.ensures, c.session-x.ensures) at c.compared.ensures
+returns c = rw (c.opened-next.ensures, c.with_engine.ensures, c.keystream-ks.ensures, c.session-x.ensures) at c.compared.ensures

@@ -5,4 +5,4 @@ use Rattle.authentication.proofs.reader.prove.Goals as goal
 
 pub returns : goal.returns
 unfolding answer_of next_keystream
-returns c = rw (c.filled-next.ensures, c.with_engine.ensures, c.keystream-ks.ensures, c.answer_session-x.ensures, c.face-face.ensures)
+returns c = rw (c.filled-next.ensures, c.with_engine.ensures, c.keystream-ks.ensures, c.answer_session-x.ensures, c.face-face.ensures) at c.reached.ensures
