@@ -34,3 +34,8 @@ lent xs ys l a q =
     let all : take (length xs - a) (drop a xs) ≡ drop a xs = between_to_end xs a (length xs) (omega arith) in
     rw (tail_none xs a, append-nil, q, all, ← drop-run xs a ys, ← take-sets a xs a ys (omega arith))
     (take-append-drop a (sets xs a ys))
+
+-- a run of stores behind the first element
+pub behind : (ys l : List ℕ) (x i : ℕ) → sets (x ∷ l) (suc i) ys ≡ x ∷ sets l i ys
+behind [] l x i = refl
+behind (y ∷ ys) l x i = behind ys (set l i y) x (suc i)

@@ -107,15 +107,15 @@ pub fn groups(count: usize) -> usize
 pub fn put(out: &mut [u8], count: usize)
     ensures { out.new ≡ sets out.old 0 (count_bytes count) }
 {
-    if out.is_empty() {
+    let Some((first, rest)) = out.split_first_mut() else {
         return;
-    }
+    };
     if count < GROUP {
-        out[0] = count as u8;
+        *first = count as u8;
         return;
     }
-    out[0] = (count % GROUP + GROUP) as u8;
-    put(&mut out[1..], count / GROUP);
+    *first = (count % GROUP + GROUP) as u8;
+    put(rest, count / GROUP);
 }
 
 // A count, refused over `most`.

@@ -42,7 +42,8 @@ pub fn scan(s: &[u8]) -> Result<Frame, Refusal>
     frame_at(s, kind, counted)
 }
 
-// The payload of the frame that `s` begins with, as a part of `s`: an empty one where the frame is refused.
+// The payload of the frame that `s` begins with, as a part of `s`. No `Result`: a refused read hands back an empty part
+// (docs/DECISIONS.md 9).
 #[tactic(auto, unfolding(crate::specs::Frame::payload_of, crate::specs::Frame::part_of))]
 pub fn payload(s: &[u8]) -> &[u8]
     ensures { result.now ≡ payload_of s.now }
@@ -54,7 +55,8 @@ pub fn payload(s: &[u8]) -> &[u8]
 }
 
 // Writes a frame from `at` on, which may lie anywhere, past the end too; the place behind it. A refused write changes nothing, a
-// done one only the frame's own bytes. Bytes of the payload behind its count are ignored.
+// done one only the frame's own bytes. Bytes of the payload behind its count are ignored. Kind, count and payload are no struct:
+// they are parameters here, and the functions below hand them on.
 #[tactic(auto, unfolding(crate::specs::Frame::out_after, crate::specs::Frame::changed))]
 pub fn write(
     out: &mut [u8],
@@ -66,9 +68,9 @@ pub fn write(
     ensures value { result ≡ written_of (length out.old) at kind count payload.now }
     ensures out_after { out.new ≡ out_after out.old at kind count payload.now }
 {
-    let next = verdict(out.len(), at, kind, count, payload)?;
+    let end = end_of(out.len(), at, kind, count, payload)?;
     put_frame(&mut out[at..], kind, count, payload);
-    Ok(next)
+    Ok(end)
 }
 
 // The frame whose payload is behind its count.
@@ -95,9 +97,9 @@ fn limit(kind: u8) -> usize
     if kind == RESET { 0 } else { MOST_BITS }
 }
 
-// Whether a frame may be written, and the place behind it. Nothing is written before this is known.
+// The place behind a frame that may be written. Nothing is written before this is known.
 #[tactic(auto, using(crate::proofs::Answers::frame_sizes), unfolding(crate::specs::Frame::written_of, crate::specs::Frame::placed))]
-fn verdict(len: usize, at: usize, kind: u8, count: usize, payload: &[u8]) -> Result<usize, Refusal>
+fn end_of(len: usize, at: usize, kind: u8, count: usize, payload: &[u8]) -> Result<usize, Refusal>
     ensures { result ≡ written_of len at kind count payload.now }
 {
     if RESET < kind {

@@ -54,7 +54,8 @@ pub struct Session {
     pub reg: u64,
 }
 
-// Bits that were put out, the first highest, and the generator after them.
+// Bits that were put out, the first highest, and the generator after them. This and `Pair` are named for what they hold, which a
+// tuple or a generic would not say.
 #[derive(Clone, Copy)]
 pub struct Outputs {
     pub word: u64,
@@ -106,7 +107,8 @@ impl Width {
 }
 
 impl Engine {
-    // The registers as clause 9 sets them up, before the first clock. Of a number only the low 48 bits count.
+    // The registers as clause 9 sets them up, before the first clock. Of a number only the low 48 bits count. The four are clause
+    // 9's, and no struct: of the suite `states::session::begin` alone hands them on.
     pub fn load(key: Register, method: Method, reader: u64, tag: u64) -> Engine
         ensures { result ≡ engine_of (loaded method (bits_r key) reader tag) }
     {
@@ -203,9 +205,11 @@ impl Engine {
     fn value<const N: usize>(self, table: &[[Tap; N]]) -> bool
         ensures { result ≡ value (state_of self) (terms table.now) }
     {
+        // A loop and no fold: the check reads nothing off a closure's body in a generic function, and with an `ensures` of its own
+        // the closure is no plainer.
         let mut sum = false;
         for taps in table {
-            sum = sum ^ self.product(taps);
+            sum ^= self.product(taps);
         }
         sum
     }
@@ -245,6 +249,7 @@ impl Engine {
     }
 }
 
+// The width is beside the session, and no field of it: it is public, and a face holds it.
 impl Session {
     // The MAC goes over the first `count` bits of `bytes` and the padding bit; it is the accumulator that comes back.
     pub fn authenticate(self, width: Width, bytes: &[u8], count: usize) -> Session
@@ -281,20 +286,16 @@ impl Session {
         }
     }
 
-    // A bit is no element of the slice: the loop here and the next one count places.
+    // A bit is no element of the slice, so the fold here and the loop below go over places.
     fn absorb(self, bytes: &[u8], count: usize) -> Session
         ensures { (v : Width) → mac_of (width_of v) result ≡ absorbed (take count (bits_of_bytes bytes.now)) (mac_of (width_of v) self) }
     {
         let n = bits::bits_in(bytes, count);
-        let mut x = self;
-        for i in 0..n {
-            let m = bits::bit_at(bytes, i);
-            x = x.step(m);
-        }
-        x
+        (0..n).fold(self, |x, i| x.step(bits::bit_at(bytes, i)))
     }
 
-    // Each bit has its keystream bit added, and of the two the encrypted one goes into the MAC.
+    // Each bit has its keystream bit added, and of the two the encrypted one goes into the MAC. A constant, so that both ways have
+    // one proof, and none is chosen at run time.
     fn cipher<const DECRYPTING: bool>(self, bytes: &mut [u8], count: usize) -> Session
         ensures { (v : Width) →
             (mac_of (width_of v) result ≡ absorbed (cond DECRYPTING (take count (bits_of_bytes bytes.old)) (encrypted (take count (bits_of_bytes bytes.old)) (mac_of (width_of v) self))) (mac_of (width_of v) self))
@@ -345,6 +346,7 @@ impl Register {
     }
 }
 
+// Bits and payloads have the like of a byte, and each its own width.
 #[tactic(auto, using(bits::proofs::Words::word_bit_lem))]
 fn word_bit(n: u64, place: usize) -> bool
     requires { place < 64 }

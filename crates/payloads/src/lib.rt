@@ -1,6 +1,9 @@
 // Payloads (document 01, "Payloads, first bit highest in its byte"): the fields of a lent payload, an authentication's payload
 // written, the parts of a message, and what options ask and features offer (Tables 4 and 5). No public function has a
 // `requires`: a field past a slice's end is zero, and what has no room is dropped.
+//
+// Between bools stand `&` and `|`, here and in the crates above, and no `&&`, which may branch: where a message comes, the places
+// of a command's fields hold its data, and data chooses no branch.
 #![tactic(auto)]
 
 ghost use Rattle.std.specs.Prelude.{◌≡◌, [], ◌∷◌, ◌++◌, ◌≤◌, ◌<◌, length};
@@ -102,7 +105,7 @@ pub fn features(payload: &[u8]) -> u8
     small_field(payload, 0, 8)
 }
 
-// The status in a response to step 1.
+// The status in a response to step 1: its one bit, a byte as it came.
 pub fn status(payload: &[u8]) -> u8
     ensures { result ≡ status_in (bits_of_bytes payload.now) }
 {
@@ -123,7 +126,7 @@ pub fn write(p: Payload, out: &mut [u8]) -> usize
     at
 }
 
-// A payload's fields, one behind the other. There are three at most.
+// A payload's fields, one behind the other. There are three at most, and no heap for fewer: `NONE` has no bits, and writes nothing.
 fn parts_of(p: Payload) -> [Part; 3]
     ensures { Says p result }
 {
@@ -235,7 +238,8 @@ pub fn secure(options: u8) -> bool
     bit(options, 1)
 }
 
-// Whether features support options.
+// Whether features support options. By `&` and `|`, and no `match` or `if`, here and in the two below: where a message comes, its
+// data stands for options and method.
 pub fn supported(features: u8, options: u8) -> bool
     ensures { result ≡ supports features options }
 {

@@ -1,32 +1,38 @@
-use mathlib.Core.Path.{◌≡◌}
-use Prim.Native.Nat.{◌-◌}
+-- `grain::Session::absorb` meets its contract: after each bit, those so far have gone in.
+use mathlib.Core.Path.{◌≡◌, refl, ◌∙◌}
+use mathlib.Core.Bool.{false}
+use mathlib.Core.List.{List, map}
+use Prim.Native.Nat.{ℕ}
 use native.Mathlib.Omega.{arith}
-use lib.ListN.{length-take}
+use lib.ListN.{get_or, length-take}
+use Rattle.std.proofs.Common.{rules}
+use Rattle.std.specs.List.{range_with_len}
+use Rattle.std.proofs.lemmas.List.{map_push}
+use Rattle.std.proofs.lemmas.Fn.{fold_over}
+use Rattle.std.proofs.lemmas.Iterator.{YieldsList-from_range}
+use Rattle.std.proofs.iter.Yields.{nat_range_steps}
 use Rattle.bits.specs.Bytes.{bits_of_bytes}
-use Rattle.grain.specs.Mac.{absorbed}
+use Rattle.grain.specs.declared.Width.{Width}
+use Rattle.grain.specs.declared.Session.{Session}
+use Rattle.grain.specs.Mac.{absorbed, taken}
 use Rattle.grain.specs.Stored.{mac_of, width_of}
-use Rattle.grain.proofs.Messages.{absorb_turn, cut_short}
-use borrow.Author.Rules.{rules}
+use Rattle.grain.proofs.Messages.{absorbed-push, bits_at, cut_short}
 use Rattle.grain.proofs.Session.absorb.Goals as goal
-
-pub loop-i-preserved : goal.loop-i-preserved
-loop-i-preserved c =
-    let l = c.loop-i in
-    let a = c.args in
-    let ms = bits_of_bytes a.bytes.now in
-    let n = c.bits_in-n.result in
-    let e = length-take a.count ms in (
-      search rules,
-      λ v. rw (c.step-x.ensures v, c.bit_at-m.ensures)
-          (absorb_turn n l.i ms (mac_of (width_of v) l.x) _ (search rules) (omega arith) (l.invariant.1 v)),
-    )
 
 pub returns : goal.returns
 unfolding absorbed
 returns c =
     λ v.
     let a = c.args in
+    let ms = bits_of_bytes a.bytes.now in
     let n = c.bits_in-n.result in
-    let e : n - c.loop-i.i ≡ 0 = omega arith in
-    let s = cut_short n a.count (bits_of_bytes a.bytes.now) c.bits_in-n.ensures in
-    rw (e, s.0) at (c.loop-i.invariant.1 v)
+    let bit = λ (i : ℕ). get_or ms i false in
+    let J : List ℕ → Session → Type 0 = λ is x. (w : Width) → mac_of (width_of w) x ≡ absorbed (map bit is) (mac_of (width_of w) a.self) in
+    let s = cut_short n a.count ms c.bits_in-n.ensures in
+    let e = length-take a.count ms in
+    fold_over nat_range_steps (λ i. i) _ J _
+    (λ is x i b f' j k.
+    let t : (w : Width) → mac_of (width_of w) b ≡ taken (bit i) (mac_of (width_of w) x) = search rules in
+    (λ w. t w ∙ rw (j w, map_push bit is i, absorbed-push) refl, search rules))
+    (record { start = 0; end = n }) (range_with_len 0 n) a.self c.fold.result (YieldsList-from_range 0 n n refl (omega arith)).runs (λ w. refl) c.fold.ensures.ran v
+    ∙ rw (bits_at ms n 0 (omega arith), s.0) refl
