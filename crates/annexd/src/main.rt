@@ -151,7 +151,7 @@ impl<'a, P: Print> Set<'a, P> {
             hex(&mut line, next.word, bits);
             g = next.engine;
         }
-        self.print(&mut line);
+        console::print_line(self.rt, &mut line);
     }
 
     // Lines 11 and 12: the keystream bits and the MAC bits of the same pairs.
@@ -237,7 +237,7 @@ impl<'a, P: Print> Set<'a, P> {
     fn number(&self, line: u64, x: u64, bits: usize) {
         let mut line = self.begin(line);
         hex(&mut line, x, bits);
-        self.print(&mut line);
+        console::print_line(self.rt, &mut line);
     }
 
     // A word, and the low `bits` bits of a second.
@@ -245,7 +245,7 @@ impl<'a, P: Print> Set<'a, P> {
         let mut line = self.begin(line);
         hex(&mut line, first, 64);
         hex(&mut line, second, bits);
-        self.print(&mut line);
+        console::print_line(self.rt, &mut line);
     }
 
     fn missing(&self, line: u64) {
@@ -255,7 +255,7 @@ impl<'a, P: Print> Set<'a, P> {
     fn text(&self, line: u64, text: &[u8]) {
         let mut line = self.begin(line);
         line.put(text);
-        self.print(&mut line);
+        console::print_line(self.rt, &mut line);
     }
 
     // MAC, set and number.
@@ -269,10 +269,5 @@ impl<'a, P: Print> Set<'a, P> {
         line.decimal(number);
         line.put(b": ");
         line
-    }
-
-    fn print(&self, line: &mut Line<LINE_BYTES>) {
-        let at = line.at;
-        console::print(self.rt, &mut line.bytes, at);
     }
 }

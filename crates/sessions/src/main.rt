@@ -254,21 +254,16 @@ impl<'a, P: Print> Run<'a, P> {
 
 // Who is called and for what, the answer, the reply's bits, the reply.
 fn print_call(rt: &impl Print, name: &[u8], answer: Answer, count: usize, reply: &[u8]) {
-    let mut line = Line::new();
+    let mut line = Line::<LINE_BYTES>::new();
     line.put(name);
     line.spaced(u64::from(u8::from(answer)));
     line.spaced(count as u64);
     line.reply(reply, count);
-    print(rt, &mut line);
+    console::print_line(rt, &mut line);
 }
 
 fn print_heading(rt: &impl Print, heading: &[u8]) {
-    let mut line = Line::new();
+    let mut line = Line::<LINE_BYTES>::new();
     line.put(heading);
-    print(rt, &mut line);
-}
-
-fn print(rt: &impl Print, line: &mut Line<LINE_BYTES>) {
-    let at = line.at;
-    console::print(rt, &mut line.bytes, at);
+    console::print_line(rt, &mut line);
 }

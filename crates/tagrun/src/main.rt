@@ -104,27 +104,22 @@ fn run_frame(
 
 // Frame number, refusal.
 fn print_refusal(rt: &impl Print, number: u64, why: Refusal) {
-    let mut line = Line::new();
+    let mut line = Line::<LINE_BYTES>::new();
     line.spaced(number);
     line.decimal(u64::from(u8::from(why)));
-    print(rt, &mut line);
+    console::print_line(rt, &mut line);
 }
 
 // Frame number, answer, state, reply bits, reply.
 fn print_step(rt: &impl Print, number: u64, step: Step<TagState>, reply: &[u8]) {
-    let mut line = Line::new();
+    let mut line = Line::<LINE_BYTES>::new();
     line.spaced(number);
     line.spaced(u64::from(u8::from(step.answer)));
     line.put(name_of(step.next.state.face().name));
     line.put(b" ");
     line.spaced(step.bits as u64);
     line.reply(reply, step.bits);
-    print(rt, &mut line);
-}
-
-fn print(rt: &impl Print, line: &mut Line<LINE_BYTES>) {
-    let at = line.at;
-    console::print(rt, &mut line.bytes, at);
+    console::print_line(rt, &mut line);
 }
 
 // A state's name.
