@@ -3,30 +3,21 @@
 // heading for each session and a line for each call (document 01, "Tag machine" and "Reader machine"; document 02, Req 01).
 #![tactic(auto)]
 
+use grain::Method;
 use rules::Answer;
 use states::{ReaderState, TagState};
 use suite::{Reader, Step, Tag};
 use text::Line;
 
-// The methods, by their numbers in a payload.
-#[derive(Clone, Copy, PartialEq, Eq)]
-enum Method {
-    Ta,
-    Ia,
-    Ma,
+// The kinds of messages.
+#[derive(Clone, Copy)]
+enum Kind {
+    Comm,
+    Secure,
 }
 
-// The kinds of what is handed on: authentication, comm, secure. They are numbers, as the machines' calls take any.
+// The kind of what the authentication hands on, a number, as the machines' calls take any.
 const AUTH: u8 = 0;
-
-const COMM: u8 = 1;
-
-const SECURE: u8 = 2;
-
-// The kinds under which the tag is asked for its own messages: comm, secure.
-const COMM_WANTED: u8 = 4;
-
-const SECURE_WANTED: u8 = 5;
 
 // The first of the options with secure messages: 2 has MAC32, 3 has MAC64.
 const SECURE_OPTIONS: u8 = 2;
@@ -89,9 +80,9 @@ fn main(rt: HostRuntime) {
 fn session(rt: &impl Print, heading: &[u8], method: Method, options: u8) {
     let run = Run::fresh(rt, heading)
         .open(method, options)
-        .messages(method, COMM, COMM_WANTED);
+        .messages(method, Kind::Comm);
     if SECURE_OPTIONS <= options {
-        run.messages(method, SECURE, SECURE_WANTED);
+        run.messages(method, Kind::Secure);
     }
 }
 
@@ -101,10 +92,10 @@ fn damaged_session(rt: &impl Print, heading: &[u8]) {
     let mut reply = [0u8; Tag::REPLY_BYTES];
     let run = Run::fresh(rt, heading)
         .open(Method::Ma, SECURE_OPTIONS)
-        .send(SECURE, DATA_BITS, &mut message);
+        .send(Kind::Secure, DATA_BITS, &mut message);
     damage(&mut message);
-    run.command(SECURE, &message, &mut reply)
-        .response(SECURE_WANTED, DATA_BITS, &mut reply);
+    run.command(Kind::Secure.sent(), &message, &mut reply)
+        .response(Kind::Secure, DATA_BITS, &mut reply);
 }
 
 fn damage(message: &mut [u8]) {
@@ -134,6 +125,24 @@ fn bought_session(rt: &impl Print, heading: &[u8], method: Method) {
 fn disclaim(response: &mut [u8]) {
     bits::set_bit(response, TA_FEATURE, false);
     bits::set_bit(response, IA_FEATURE, false);
+}
+
+impl Kind {
+    // The kind under which a message is handed on.
+    fn sent(self) -> u8 {
+        match self {
+            Kind::Comm => 1,
+            Kind::Secure => 2,
+        }
+    }
+
+    // The kind under which the tag is asked for its own message.
+    fn wanted(self) -> u8 {
+        match self {
+            Kind::Comm => 4,
+            Kind::Secure => 5,
+        }
+    }
 }
 
 impl<'a, P: Print> Run<'a, P> {
@@ -171,29 +180,27 @@ impl<'a, P: Print> Run<'a, P> {
     }
 
     // The messages of one kind, the data and then one of no bits: IA has them to the tag, TA to the reader, MA both ways.
-    fn messages(mut self, method: Method, kind: u8, wanted: u8) -> Self {
+    fn messages(mut self, method: Method, kind: Kind) -> Self {
         if method != Method::Ta {
             self = self.to_tag(kind, DATA_BITS).to_tag(kind, 0);
         }
         if method != Method::Ia {
-            self = self
-                .to_reader(wanted, kind, DATA_BITS)
-                .to_reader(wanted, kind, 0);
+            self = self.to_reader(kind, DATA_BITS).to_reader(kind, 0);
         }
         self
     }
 
-    fn to_tag(self, kind: u8, count: usize) -> Self {
+    fn to_tag(self, kind: Kind, count: usize) -> Self {
         let mut message = [0u8; Tag::REPLY_BYTES];
         let mut reply = [0u8; Tag::REPLY_BYTES];
         self.send(kind, count, &mut message)
-            .command(kind, &message, &mut reply)
+            .command(kind.sent(), &message, &mut reply)
     }
 
-    fn to_reader(self, wanted: u8, kind: u8, count: usize) -> Self {
+    fn to_reader(self, kind: Kind, count: usize) -> Self {
         let mut message = [0u8; Tag::REPLY_BYTES];
         let mut reply = [0u8; Tag::REPLY_BYTES];
-        self.response(wanted, count, &mut message)
+        self.response(kind, count, &mut message)
             .receive(kind, &message, &mut reply)
     }
 
@@ -211,13 +218,13 @@ impl<'a, P: Print> Run<'a, P> {
         self.after_reader(b"reader replied ", step, reply)
     }
 
-    fn send(self, kind: u8, count: usize, reply: &mut [u8]) -> Self {
-        let step = self.reader.send(kind, &DATA, count, reply);
+    fn send(self, kind: Kind, count: usize, reply: &mut [u8]) -> Self {
+        let step = self.reader.send(kind.sent(), &DATA, count, reply);
         self.after_reader(b"reader send ", step, reply)
     }
 
-    fn receive(self, kind: u8, message: &[u8], reply: &mut [u8]) -> Self {
-        let step = self.reader.receive(kind, message, self.bits, reply);
+    fn receive(self, kind: Kind, message: &[u8], reply: &mut [u8]) -> Self {
+        let step = self.reader.receive(kind.sent(), message, self.bits, reply);
         self.after_reader(b"reader receive ", step, reply)
     }
 
@@ -237,8 +244,8 @@ impl<'a, P: Print> Run<'a, P> {
         self.after_tag(b"tag command ", step, reply)
     }
 
-    fn response(self, wanted: u8, count: usize, reply: &mut [u8]) -> Self {
-        let step = self.tag.response(wanted, &DATA, count, reply);
+    fn response(self, kind: Kind, count: usize, reply: &mut [u8]) -> Self {
+        let step = self.tag.response(kind.wanted(), &DATA, count, reply);
         self.after_tag(b"tag response ", step, reply)
     }
 
