@@ -4,7 +4,7 @@
 ghost use Rattle.std.specs.Prelude.{◌≤◌, length};
 
 use faces::Name;
-use frames::Refusal;
+use frames::{Frame, Refusal};
 use states::TagState;
 use std::io::Read;
 use suite::{Step, Tag};
@@ -55,6 +55,7 @@ fn run(rt: &impl Print, input: &[u8]) {
     let mut tag = fresh();
     let mut number: u64 = 0;
     let mut rest = input;
+    // A loop over what is left: an iterator of frames would have to end behind the first refusal, and to hand that out too.
     while !rest.is_empty() {
         number += 1;
         match frames::scan(rest) {
@@ -63,15 +64,9 @@ fn run(rt: &impl Print, input: &[u8]) {
                 return;
             }
             Ok(frame) => {
-                tag = run_frame(
-                    rt,
-                    tag,
-                    number,
-                    frame.kind,
-                    frames::payload(rest),
-                    frame.count,
-                );
+                let payload = &rest[frame.start..frame.end];
                 rest = &rest[frame.end..];
+                tag = run_frame(rt, tag, number, frame, payload);
             }
         }
     }
@@ -84,19 +79,12 @@ fn fresh() -> Tag {
 }
 
 // Runs a frame and prints its line; the tag after it.
-fn run_frame(
-    rt: &impl Print,
-    tag: Tag,
-    number: u64,
-    kind: u8,
-    payload: &[u8],
-    count: usize,
-) -> Tag {
+fn run_frame(rt: &impl Print, tag: Tag, number: u64, frame: Frame, payload: &[u8]) -> Tag {
     // KeyID 05 and the key of Annex D's set 6.
     let book = b"\x05\x01\x23\x45\x67\x89\xAB\xCD\xEF\xFE\xDC\xBA\x98\x76\x54\x32\x10";
     let mut reply = [0u8; Tag::REPLY_BYTES];
     let step = host::run(
-        tag, kind, payload, count, FEATURES, book, NUMBER, &mut reply,
+        tag, frame.kind, payload, frame.count, FEATURES, book, NUMBER, &mut reply,
     );
     print_step(rt, number, step, &reply);
     step.next
