@@ -8,7 +8,7 @@ use text::Line;
 // The longest line: 21 of its head, 80 digits of five words, and its end.
 const LINE_BYTES: usize = 102;
 
-// The message of every set, and its bits.
+// The message of every set, and its bits; `sessions` has them too, as the programs share no crate for their constants.
 const MESSAGE: [u8; 5] = *b"\x12\x34\x56\x78\xAB";
 
 const MESSAGE_BITS: usize = 40;

@@ -22,6 +22,8 @@ const AUTH: u8 = 0;
 // The first of the options with secure messages: 2 has MAC32, 3 has MAC64.
 const SECURE_OPTIONS: u8 = 2;
 
+// What is set 6's here stands in `annexd` and `tagrun` too: a crate for the programs' constants alone would be no plainer.
+
 // The KeyID that both ends have, and their book: set 6's key of Annex D under it.
 const KEYID: u8 = 0x05;
 

@@ -13,6 +13,8 @@ use text::Line;
 // The most bytes that it runs.
 const MOST_BYTES: usize = 32768;
 
+// Features, number and book stand in `sessions` too: a crate for the programs' constants alone would be no plainer.
+
 // The tag's features: all of Table 5's.
 const FEATURES: u8 = 0x1F;
 
@@ -110,7 +112,7 @@ fn print_step(rt: &impl Print, number: u64, step: Step<TagState>, reply: &[u8]) 
     console::print_line(rt, &mut line);
 }
 
-// A state's name.
+// A state's name, as bytes and by no `Display`: a `Line` is no writer for `write!` (`text` has the reason).
 fn name_of(name: Name) -> &'static [u8] {
     match name {
         Name::CsReset => b"CS-Reset",
