@@ -2,18 +2,13 @@
 // MAC, set and number; the file `stdout` holds the values that the standard prints.
 #![tactic(auto)]
 
-ghost use Rattle.std.specs.Prelude.{◌<◌};
-
 use grain::{Engine, Method, Register, Session, Width};
 use text::Line;
 
 // The longest line: 21 of its head, 80 digits of five words, and its end.
 const LINE_BYTES: usize = 102;
 
-// The most lines that a table has.
-const LINES: u64 = 25;
-
-// The message of every set, and its bits.
+// The message of every set, and its bits; `sessions` has them too, as the programs share no crate for their constants.
 const MESSAGE: [u8; 5] = *b"\x12\x34\x56\x78\xAB";
 
 const MESSAGE_BITS: usize = 40;
@@ -151,7 +146,7 @@ impl<'a, P: Print> Set<'a, P> {
             hex(&mut line, next.word, bits);
             g = next.engine;
         }
-        self.print(&mut line);
+        console::print_line(self.rt, &mut line);
     }
 
     // Lines 11 and 12: the keystream bits and the MAC bits of the same pairs.
@@ -163,9 +158,8 @@ impl<'a, P: Print> Set<'a, P> {
     }
 
     // IKeyStream and TKeyStream, on two lines from `line` on; the session after them.
-    fn keystreams(&self, line: u64, x: Session, method: Method) -> Session
-        requires { line < LINES }
-    {
+    fn keystreams(&self, line: u8, x: Session, method: Method) -> Session {
+        let line = u64::from(line);
         let first = x.engine.keystream();
         let next = first.engine;
         let engine = match method {
@@ -215,17 +209,15 @@ impl<'a, P: Print> Set<'a, P> {
     }
 
     // The message, and its length in bits.
-    fn message(&self, line: u64)
-        requires { line < LINES }
-    {
+    fn message(&self, line: u8) {
+        let line = u64::from(line);
         self.number(line, bits::field(&MESSAGE, 0, MESSAGE_BITS), MESSAGE_BITS);
         self.text(line + 1, b"40");
     }
 
     // b and s, on two lines from `line` on.
-    fn registers(&self, line: u64, e: Engine)
-        requires { line < LINES }
-    {
+    fn registers(&self, line: u8, e: Engine) {
+        let line = u64::from(line);
         self.register(line, e.b);
         self.register(line + 1, e.s);
     }
@@ -237,7 +229,7 @@ impl<'a, P: Print> Set<'a, P> {
     fn number(&self, line: u64, x: u64, bits: usize) {
         let mut line = self.begin(line);
         hex(&mut line, x, bits);
-        self.print(&mut line);
+        console::print_line(self.rt, &mut line);
     }
 
     // A word, and the low `bits` bits of a second.
@@ -245,7 +237,7 @@ impl<'a, P: Print> Set<'a, P> {
         let mut line = self.begin(line);
         hex(&mut line, first, 64);
         hex(&mut line, second, bits);
-        self.print(&mut line);
+        console::print_line(self.rt, &mut line);
     }
 
     fn missing(&self, line: u64) {
@@ -255,7 +247,7 @@ impl<'a, P: Print> Set<'a, P> {
     fn text(&self, line: u64, text: &[u8]) {
         let mut line = self.begin(line);
         line.put(text);
-        self.print(&mut line);
+        console::print_line(self.rt, &mut line);
     }
 
     // MAC, set and number.
@@ -269,10 +261,5 @@ impl<'a, P: Print> Set<'a, P> {
         line.decimal(number);
         line.put(b": ");
         line
-    }
-
-    fn print(&self, line: &mut Line<LINE_BYTES>) {
-        let at = line.at;
-        console::print(self.rt, &mut line.bytes, at);
     }
 }

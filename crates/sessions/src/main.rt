@@ -3,33 +3,26 @@
 // heading for each session and a line for each call (document 01, "Tag machine" and "Reader machine"; document 02, Req 01).
 #![tactic(auto)]
 
+use grain::Method;
 use rules::Answer;
 use states::{ReaderState, TagState};
 use suite::{Begin, Command, Message, Reader, Step, Tag};
 use text::Line;
 
-// The methods, by their numbers in a payload.
-#[derive(Clone, Copy, PartialEq, Eq)]
-enum Method {
-    Ta,
-    Ia,
-    Ma,
+// The kinds of messages.
+#[derive(Clone, Copy)]
+enum Kind {
+    Comm,
+    Secure,
 }
 
-// The kinds of what is handed on: authentication, comm, secure. They are numbers, as the machines' calls take any.
+// The kind of what the authentication hands on, a number, as the machines' calls take any.
 const AUTH: u8 = 0;
-
-const COMM: u8 = 1;
-
-const SECURE: u8 = 2;
-
-// The kinds under which the tag is asked for its own messages: comm, secure.
-const COMM_WANTED: u8 = 4;
-
-const SECURE_WANTED: u8 = 5;
 
 // The first of the options with secure messages: 2 has MAC32, 3 has MAC64.
 const SECURE_OPTIONS: u8 = 2;
+
+// What is set 6's here stands in `annexd` and `tagrun` too: a crate for the programs' constants alone would be no plainer.
 
 // The KeyID that both ends have, and their book: set 6's key of Annex D under it.
 const KEYID: u8 = 0x05;
@@ -89,9 +82,9 @@ fn main(rt: HostRuntime) {
 fn session(rt: &impl Print, heading: &[u8], method: Method, options: u8) {
     let run = Run::fresh(rt, heading)
         .open(method, options)
-        .messages(method, COMM, COMM_WANTED);
+        .messages(method, Kind::Comm);
     if SECURE_OPTIONS <= options {
-        run.messages(method, SECURE, SECURE_WANTED);
+        run.messages(method, Kind::Secure);
     }
 }
 
@@ -101,10 +94,10 @@ fn damaged_session(rt: &impl Print, heading: &[u8]) {
     let mut reply = [0u8; Tag::REPLY_BYTES];
     let run = Run::fresh(rt, heading)
         .open(Method::Ma, SECURE_OPTIONS)
-        .send(SECURE, DATA_BITS, &mut message);
+        .send(Kind::Secure, DATA_BITS, &mut message);
     damage(&mut message);
-    run.command(SECURE, &message, &mut reply)
-        .response(SECURE_WANTED, DATA_BITS, &mut reply);
+    run.command(Kind::Secure.sent(), &message, &mut reply)
+        .response(Kind::Secure, DATA_BITS, &mut reply);
 }
 
 fn damage(message: &mut [u8]) {
@@ -134,6 +127,24 @@ fn bought_session(rt: &impl Print, heading: &[u8], method: Method) {
 fn disclaim(response: &mut [u8]) {
     bits::set_bit(response, TA_FEATURE, false);
     bits::set_bit(response, IA_FEATURE, false);
+}
+
+impl Kind {
+    // The kind under which a message is handed on.
+    fn sent(self) -> u8 {
+        match self {
+            Kind::Comm => 1,
+            Kind::Secure => 2,
+        }
+    }
+
+    // The kind under which the tag is asked for its own message.
+    fn wanted(self) -> u8 {
+        match self {
+            Kind::Comm => 4,
+            Kind::Secure => 5,
+        }
+    }
 }
 
 impl<'a, P: Print> Run<'a, P> {
@@ -171,29 +182,27 @@ impl<'a, P: Print> Run<'a, P> {
     }
 
     // The messages of one kind, the data and then one of no bits: IA has them to the tag, TA to the reader, MA both ways.
-    fn messages(mut self, method: Method, kind: u8, wanted: u8) -> Self {
+    fn messages(mut self, method: Method, kind: Kind) -> Self {
         if method != Method::Ta {
             self = self.to_tag(kind, DATA_BITS).to_tag(kind, 0);
         }
         if method != Method::Ia {
-            self = self
-                .to_reader(wanted, kind, DATA_BITS)
-                .to_reader(wanted, kind, 0);
+            self = self.to_reader(kind, DATA_BITS).to_reader(kind, 0);
         }
         self
     }
 
-    fn to_tag(self, kind: u8, count: usize) -> Self {
+    fn to_tag(self, kind: Kind, count: usize) -> Self {
         let mut message = [0u8; Tag::REPLY_BYTES];
         let mut reply = [0u8; Tag::REPLY_BYTES];
         self.send(kind, count, &mut message)
-            .command(kind, &message, &mut reply)
+            .command(kind.sent(), &message, &mut reply)
     }
 
-    fn to_reader(self, wanted: u8, kind: u8, count: usize) -> Self {
+    fn to_reader(self, kind: Kind, count: usize) -> Self {
         let mut message = [0u8; Tag::REPLY_BYTES];
         let mut reply = [0u8; Tag::REPLY_BYTES];
-        self.response(wanted, count, &mut message)
+        self.response(kind, count, &mut message)
             .receive(kind, &message, &mut reply)
     }
 
@@ -216,9 +225,9 @@ impl<'a, P: Print> Run<'a, P> {
         self.after_reader(b"reader replied ", step, reply)
     }
 
-    fn send(self, kind: u8, count: usize, reply: &mut [u8]) -> Self {
+    fn send(self, kind: Kind, count: usize, reply: &mut [u8]) -> Self {
         let message = Message {
-            kind,
+            kind: kind.sent(),
             payload: &DATA,
             count,
         };
@@ -226,9 +235,9 @@ impl<'a, P: Print> Run<'a, P> {
         self.after_reader(b"reader send ", step, reply)
     }
 
-    fn receive(self, kind: u8, payload: &[u8], reply: &mut [u8]) -> Self {
+    fn receive(self, kind: Kind, payload: &[u8], reply: &mut [u8]) -> Self {
         let message = Message {
-            kind,
+            kind: kind.sent(),
             payload,
             count: self.bits,
         };
@@ -260,9 +269,9 @@ impl<'a, P: Print> Run<'a, P> {
         self.after_tag(b"tag command ", step, reply)
     }
 
-    fn response(self, wanted: u8, count: usize, reply: &mut [u8]) -> Self {
+    fn response(self, kind: Kind, count: usize, reply: &mut [u8]) -> Self {
         let message = Message {
-            kind: wanted,
+            kind: kind.wanted(),
             payload: &DATA,
             count,
         };
@@ -282,21 +291,16 @@ impl<'a, P: Print> Run<'a, P> {
 
 // Who is called and for what, the answer, the reply's bits, the reply.
 fn print_call(rt: &impl Print, name: &[u8], answer: Answer, count: usize, reply: &[u8]) {
-    let mut line = Line::new();
+    let mut line = Line::<LINE_BYTES>::new();
     line.put(name);
     line.spaced(u64::from(u8::from(answer)));
     line.spaced(count as u64);
     line.reply(reply, count);
-    print(rt, &mut line);
+    console::print_line(rt, &mut line);
 }
 
 fn print_heading(rt: &impl Print, heading: &[u8]) {
-    let mut line = Line::new();
+    let mut line = Line::<LINE_BYTES>::new();
     line.put(heading);
-    print(rt, &mut line);
-}
-
-fn print(rt: &impl Print, line: &mut Line<LINE_BYTES>) {
-    let at = line.at;
-    console::print(rt, &mut line.bytes, at);
+    console::print_line(rt, &mut line);
 }

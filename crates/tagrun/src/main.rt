@@ -13,6 +13,8 @@ use text::Line;
 // The most bytes that it runs.
 const MOST_BYTES: usize = 32768;
 
+// Features, number and book stand in `sessions` too: a crate for the programs' constants alone would be no plainer.
+
 // The tag's features: all of Table 5's.
 const FEATURES: u8 = 0x1F;
 
@@ -58,6 +60,7 @@ fn run(rt: &impl Print, input: &[u8]) {
     let mut tag = fresh();
     let mut number: u64 = 0;
     let mut rest = input;
+    // A loop over what is left: an iterator of frames would have to end behind the first refusal, and to hand that out too.
     while !rest.is_empty() {
         number += 1;
         match frames::scan(rest) {
@@ -68,7 +71,7 @@ fn run(rt: &impl Print, input: &[u8]) {
             Ok(frame) => {
                 let command = Command {
                     kind: frame.kind,
-                    payload: frames::payload(rest),
+                    payload: &rest[frame.start..frame.end],
                     count: frame.count,
                     features: FEATURES,
                     book: &BOOK,
@@ -97,30 +100,25 @@ fn run_frame(rt: &impl Print, tag: Tag, number: u64, frame: Command<'_>) -> Tag 
 
 // Frame number, refusal.
 fn print_refusal(rt: &impl Print, number: u64, why: Refusal) {
-    let mut line = Line::new();
+    let mut line = Line::<LINE_BYTES>::new();
     line.spaced(number);
     line.decimal(u64::from(u8::from(why)));
-    print(rt, &mut line);
+    console::print_line(rt, &mut line);
 }
 
 // Frame number, answer, state, reply bits, reply.
 fn print_step(rt: &impl Print, number: u64, step: Step<TagState>, reply: &[u8]) {
-    let mut line = Line::new();
+    let mut line = Line::<LINE_BYTES>::new();
     line.spaced(number);
     line.spaced(u64::from(u8::from(step.answer)));
     line.put(name_of(step.next.state.face().name));
     line.put(b" ");
     line.spaced(step.bits as u64);
     line.reply(reply, step.bits);
-    print(rt, &mut line);
+    console::print_line(rt, &mut line);
 }
 
-fn print(rt: &impl Print, line: &mut Line<LINE_BYTES>) {
-    let at = line.at;
-    console::print(rt, &mut line.bytes, at);
-}
-
-// A state's name.
+// A state's name, as bytes and by no `Display`: a `Line` is no writer for `write!` (`text` has the reason).
 fn name_of(name: Name) -> &'static [u8] {
     match name {
         Name::CsReset => b"CS-Reset",

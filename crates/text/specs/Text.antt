@@ -3,6 +3,7 @@ use Rattle.std.specs.Prelude.{cond, List, [], ◌∷◌, ◌++◌, ◌≡◌, �
 use Rattle.std.specs.List.{flat_map}
 use Rattle.std.specs.Int.Digits.{digits_of}
 use Rattle.std.proofs.lemmas.List.Edits.{sets}
+use Rattle.text.specs.declared.Line.{Line}
 
 -- a digit below 16: `0` to `9`, then `A` to `F`
 abbrev pub digit : ℕ → ℕ
@@ -32,3 +33,7 @@ reply_of count bytes = cond (eqb count 0) (45 ∷ []) (hex_of (take ((count + 7)
 pub record Writes (text before : List ℕ) (at : ℕ) (after : List ℕ) (next : ℕ) : Type 0 where
   pub bytes : after ≡ sets before at text
   pub place : next ≡ at + min (length text) (length before - at)
+
+-- the same of a line, behind what is written of it
+abbrev pub Appends : {n : ℕ} → List ℕ → Line n → Line n → Type 0
+Appends text before after = Writes text before.bytes before.at after.bytes after.at

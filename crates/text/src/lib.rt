@@ -3,7 +3,7 @@
 #![tactic(auto)]
 
 ghost use Rattle.std.specs.Prelude.{◌≡◌, [], ◌∷◌, ◌<◌, take, replicate};
-ghost use Rattle.text.specs.Text.{Writes, decimal_of, hex_of, hex_byte, spaced_of, reply_of};
+ghost use Rattle.text.specs.Text.{Writes, Appends, decimal_of, hex_of, hex_byte, spaced_of, reply_of};
 ghost use Rattle.text.specs.Text.{digit as Text·digit};
 
 // A text that is at hand.
@@ -17,7 +17,8 @@ pub fn put(out: &mut [u8], at: usize, text: &[u8]) -> usize
     next
 }
 
-// A number in decimal digits, with no zero in front.
+// A number in decimal digits, with no zero in front. It is by hand, as `hex` is: `write!` states its text where it gives `Ok`, and
+// no clause says that it does, so that `Writes` did not prove of it.
 #[tactic(auto, using(crate::proofs::Digits::decimal_one))]
 pub fn decimal(out: &mut [u8], at: usize, n: u64) -> usize
     ensures { Writes (decimal_of n) out.old at out.new result }
@@ -94,7 +95,8 @@ pub struct Line<const N: usize> {
     pub at: usize,
 }
 
-// Each method but `new` writes what the function of its name does. They take the line by `&mut`: by value each would copy it.
+// Each method but `new` writes what the function of its name does. They take the line by `&mut`: by value each would copy it. The
+// functions stay public: they write in any lent slice, as `console::print` needs it, and `determined` has a theorem of each.
 impl<const N: usize> Line<N> {
     // A line with no text.
     pub fn new() -> Self
@@ -107,31 +109,31 @@ impl<const N: usize> Line<N> {
     }
 
     pub fn put(&mut self, text: &[u8])
-        ensures { Writes text.now self.old.bytes self.old.at self.new.bytes self.new.at }
+        ensures { Appends text.now self.old self.new }
     {
         self.at = put(&mut self.bytes, self.at, text);
     }
 
     pub fn decimal(&mut self, n: u64)
-        ensures { Writes (decimal_of n) self.old.bytes self.old.at self.new.bytes self.new.at }
+        ensures { Appends (decimal_of n) self.old self.new }
     {
         self.at = decimal(&mut self.bytes, self.at, n);
     }
 
     pub fn hex(&mut self, bytes: &[u8], n: usize)
-        ensures { Writes (hex_of (take n bytes.now)) self.old.bytes self.old.at self.new.bytes self.new.at }
+        ensures { Appends (hex_of (take n bytes.now)) self.old self.new }
     {
         self.at = hex(&mut self.bytes, self.at, bytes, n);
     }
 
     pub fn spaced(&mut self, n: u64)
-        ensures { Writes (spaced_of n) self.old.bytes self.old.at self.new.bytes self.new.at }
+        ensures { Appends (spaced_of n) self.old self.new }
     {
         self.at = spaced(&mut self.bytes, self.at, n);
     }
 
     pub fn reply(&mut self, bytes: &[u8], count: usize)
-        ensures { Writes (reply_of count bytes.now) self.old.bytes self.old.at self.new.bytes self.new.at }
+        ensures { Appends (reply_of count bytes.now) self.old self.new }
     {
         self.at = reply(&mut self.bytes, self.at, bytes, count);
     }
