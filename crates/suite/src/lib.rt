@@ -127,7 +127,8 @@ impl Tag {
 }
 
 impl Reader {
-    // The reader after a reset. It is never refused, and zeroes the reply area, however short.
+    // The reader after a reset. It is never refused, and zeroes the reply area, however short. A line as the tag's, each by its own
+    // definition (`reset_of`, `reader_reset`), which no trait would shorten.
     pub fn reset(reply: &mut [u8]) -> Step<ReaderState>
         ensures { Gives step_of reader_reset result reply.old reply.new }
     {
