@@ -86,7 +86,14 @@ fn run_frame(rt: &impl Print, tag: Tag, number: u64, frame: Frame, payload: &[u8
     let book = b"\x05\x01\x23\x45\x67\x89\xAB\xCD\xEF\xFE\xDC\xBA\x98\x76\x54\x32\x10";
     let mut reply = [0u8; Tag::REPLY_BYTES];
     let step = host::run(
-        tag, frame.kind, payload, frame.count, FEATURES, book, NUMBER, &mut reply,
+        tag,
+        frame.kind,
+        payload,
+        frame.count,
+        FEATURES,
+        book,
+        NUMBER,
+        &mut reply,
     );
     print_step(rt, number, step, &reply);
     step.next
