@@ -132,7 +132,7 @@ module _ (R : RattleType) (laws : Laws R) (print-ghosts : Print.Ghosts R.Denot) 
 
   pub print_line : (n : ℕ) (fits : Fits w64 n)
       → Determines (ConsoleContracts.print_line.ended (number n) R print-ghosts dict)
-          (Console.print_line.Reads.Post n R fits laws print-ghosts dict)
+      (Console.print_line.Reads.Post n R fits laws print-ghosts dict)
   print_line n fits κs a x y p q = part refl refl (past 1 _ (part p q refl))
 
 -- ---- counts

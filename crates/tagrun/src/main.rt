@@ -69,9 +69,10 @@ fn run(rt: &impl Print, input: &[u8]) {
                 return;
             }
             Ok(frame) => {
+                let payload = &rest[frame.start..frame.end];
                 let command = Command {
                     kind: frame.kind,
-                    payload: &rest[frame.start..frame.end],
+                    payload,
                     count: frame.count,
                     features: FEATURES,
                     book: &BOOK,
