@@ -30,7 +30,7 @@ struct Streams {
 }
 
 fn main(rt: HostRuntime) {
-    let zero = Register { first: 0, last: 0 };
+    let zero = Register::default();
     let key = Register {
         first: 0x0123456789ABCDEF,
         last: 0xFEDCBA9876543210,
@@ -53,7 +53,7 @@ fn main(rt: HostRuntime) {
     set_64(&rt, 2, zero, 0x800000000000, 0, Method::Ia);
 }
 
-// Tables D.1 to D.3.
+// Tables D.1 to D.3. The inputs are parameters, as `Engine::load` takes them; with `secure` the message is sealed.
 fn set_32(
     rt: &impl Print,
     number: u64,
@@ -96,7 +96,7 @@ fn set_64(rt: &impl Print, number: u64, key: Register, reader: u64, tag: u64, me
     set.number(9, z.acc, 64);
 }
 
-// The bits of a second word of keystream, which only MA takes.
+// The bits of a second word of keystream, which only MA takes: of no bits nothing is written, so that the lines are the same code.
 fn second_bits(method: Method) -> usize {
     match method {
         Method::Ta | Method::Ia => 0,

@@ -14,7 +14,8 @@ use payloads::Payload;
 use rules::ReplyWork;
 use states::{ReaderState, session};
 
-// The step 0 command, and the reader that has sent it.
+// The step 0 command, and the reader that has sent it. The five are `begun_by`'s: of what begin is given the book is spent, and the
+// key is new.
 pub fn begin(method: u8, options: u8, keyid: u8, number: u64, key: &[u8]) -> Outcome<ReaderState>
     ensures { result ≡ handed (begun_by method options keyid number key.now) }
 {

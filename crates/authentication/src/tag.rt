@@ -79,6 +79,7 @@ pub fn prove(t: TagState, p: Shown, payload: &[u8]) -> Outcome<TagState>
     proved(both, ks.word == given, face.keyid, options, ks.engine, x)
 }
 
+// The comparison's work. Its parts are parameters, as `proved_by`, `mutually_proved` and `interrogator_proved` have them.
 fn proved(
     both: bool,
     same: bool,

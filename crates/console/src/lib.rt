@@ -8,7 +8,8 @@ ghost use Rattle.console.specs.Line.{ended};
 use text::Line;
 
 // The text of `line` up to `at`, with a line's end behind it, in one write. Where the line's end has no room, the buffer's text is
-// written without it. The contract says how the buffer is left: what is written no contract can say.
+// written without it. The contract says how the buffer is left: what is written no contract can say. It stays beside `print_line`: it
+// prints any lent slice, and `determined` has a theorem of it.
 pub fn print(rt: &impl Print, line: &mut [u8], at: usize)
     ensures { line.new ≡ ended line.old at }
 {

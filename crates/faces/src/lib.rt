@@ -114,8 +114,8 @@ pub struct ReaderFace {
     pub width: u8,
 }
 
-// Where a stage stands: all false where it is closed. Flags beside the enum, as the definitions of `rules`, `machines` and `promises`
-// cite `stage_row` and its columns.
+// Where a stage stands: all false where it is closed. Flags beside the enum, as the definitions of `rules` and `promises` cite
+// `stage_row` and its columns (`reply_work`, `may_talk`, `lacks`, `held_by`).
 #[derive(Clone, Copy, Default, PartialEq, Eq)]
 pub struct StageRow {
     pub idle: bool,

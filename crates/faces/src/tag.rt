@@ -97,7 +97,7 @@ fn width_wanted(row: Row, error: bool, options: u8) -> u8
     crate::width_where(row.filled & !error, options)
 }
 
-// Whose step 1 a state waits for.
+// Whether the step 1 that a state waits for is MA's.
 pub fn mutually(f: Face) -> bool
     ensures { result ≡ mutually f }
 {

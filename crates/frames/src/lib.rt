@@ -56,7 +56,7 @@ pub fn payload(s: &[u8]) -> &[u8]
 
 // Writes a frame from `at` on, which may lie anywhere, past the end too; the place behind it. A refused write changes nothing, a
 // done one only the frame's own bytes. Bytes of the payload behind its count are ignored. Kind, count and payload are no struct:
-// they are parameters here, and the functions below hand them on.
+// `written_of` and `out_after`, which C's `kusarehyon_frame_write` has too, take them one by one.
 #[tactic(auto, unfolding(crate::specs::Frame::out_after, crate::specs::Frame::changed))]
 pub fn write(
     out: &mut [u8],

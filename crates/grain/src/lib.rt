@@ -205,8 +205,8 @@ impl Engine {
     fn value<const N: usize>(self, table: &[[Tap; N]]) -> bool
         ensures { result ≡ value (state_of self) (terms table.now) }
     {
-        // A loop and no fold: the check reads nothing off a closure's body in a generic function, and with an `ensures` of its own
-        // the closure is no plainer.
+        // A loop and no fold: tried, and no `ensures` was found for the closure, as the function is generic; with its own it is no
+        // plainer.
         let mut sum = false;
         for taps in table {
             sum ^= self.product(taps);

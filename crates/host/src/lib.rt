@@ -11,8 +11,8 @@ ghost use Rattle.host.specs.Kinds.{ran_of};
 use states::TagState;
 use suite::{Command, Message, Step, Tag};
 
-// Runs a frame of this kind and payload; features, key book and number are the tag's, and only a command looks at them. No frame has
-// a kind above 6: such a kind goes to the command, which refuses each above 3 and keeps the tag as it is.
+// Runs a frame, given as a command of whatever kind; features, key book and number are the tag's, and only a command looks at them.
+// No frame has a kind above 6: such a kind goes to the command, which refuses each above 3 and keeps the tag as it is.
 #[tactic(auto, unfolding(crate::specs::Kinds::ran_of))]
 pub fn run(tag: Tag, command: Command<'_>, reply: &mut [u8]) -> Step<TagState>
     ensures { Gives step_of (ran_of tag.state (lent_command command.entry) (length reply.old))

@@ -214,7 +214,7 @@ pub fn length_fits(w: u8, count: usize) -> bool
     (8 + size <= count) & (count <= DATA_BITS + 8 + size)
 }
 
-// ---- options and features
+// ---- options and features: that options are below 4 each rule asks itself, as its definition does (`supports`, `reader_fits`)
 
 // The bit at `k`, the lowest at 0.
 fn bit(x: u8, k: u8) -> bool
@@ -248,7 +248,7 @@ pub fn supported(features: u8, options: u8) -> bool
     (options < 4) & mac & (!secure(options) | bit(features, 4))
 }
 
-// Whether features offer a method: its own bit.
+// Whether features offer a method: its own bit. 0 is TA, 1 IA and 2 MA, which `rules` above names.
 pub fn offered(features: u8, method: u8) -> bool
     ensures { result ≡ offers features method }
 {

@@ -21,6 +21,8 @@ pub const COMM: u8 = 1;
 
 pub const SECURE: u8 = 2;
 
+pub const KEY_UPDATE: u8 = 3;
+
 pub const COMM_RESPONSE: u8 = 4;
 
 pub const SECURE_RESPONSE: u8 = 5;
@@ -70,8 +72,8 @@ pub struct Closing {
     pub support: bool,
 }
 
-// A refusal: what is answered, and whether it closes the state or keeps it. A flag and no two variants, which would both hold an answer
-// for their readers to take out.
+// A refusal: what is answered, and whether it closes the state or keeps it. A flag and no two variants, which would both hold an
+// answer for their readers to take out.
 #[derive(Clone, Copy, PartialEq, Eq)]
 pub struct Refused {
     pub closes: bool,
@@ -132,7 +134,7 @@ pub struct ShownBegin {
     pub room: usize,
 }
 
-// What an authentication response shows of itself.
+// What an authentication response shows of itself. Its status is one bit, a byte as it came.
 #[derive(Clone, Copy)]
 pub struct ShownReply {
     pub count: usize,

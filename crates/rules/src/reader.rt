@@ -26,7 +26,7 @@ pub fn begin_verdict(f: ReaderFace, p: ShownBegin) -> Verdict
     };
     let closing = Closing {
         key: !p.known,
-        support: (3 <= p.method) | (4 <= p.options),
+        support: (MA < p.method) | (4 <= p.options),
         ..Closing::default()
     };
     order::kept(order::verdict(keeping, closing))
@@ -124,7 +124,7 @@ pub fn send_verdict(f: ReaderFace, p: ShownMessage) -> Verdict
     order::verdict(keeping, send_closing())
 }
 
-// Nothing that is to be sent closes.
+// Nothing that is to be sent closes, as `send_closing` says.
 fn send_closing() -> Closing
     ensures { result ≡ send_closing }
 {

@@ -4,8 +4,8 @@ ghost use Rattle.std.specs.Option.{option_copied};
 ghost use Rattle.rules.specs.TagRules.{found_under, kind_wanted, step_wanted, key_fits, options_supported, wrong_length, command_keeping, command_closing, command_verdict, command_work, response_verdict};
 
 use crate::{
-    AUTHENTICATION, COMM, COMM_RESPONSE, Closing, Keeping, SECURE, SECURE_RESPONSE, Shown,
-    ShownMessage, Verdict, Work, order,
+    AUTHENTICATION, COMM, COMM_RESPONSE, Closing, KEY_UPDATE, Keeping, SECURE, SECURE_RESPONSE,
+    Shown, ShownMessage, Verdict, Work, order,
 };
 use bits::AREA_BYTES;
 use faces::{Face, Row};
@@ -36,12 +36,13 @@ pub fn command_verdict(f: Face, p: Shown) -> Verdict
     order::verdict(keeping, closing)
 }
 
+// A row beside its face, as `judged_by` in `promises` hands both to any rule.
 fn command_keeping(row: Row, f: Face, p: Shown) -> Keeping
     ensures { result ≡ command_keeping row f p }
 {
     Keeping {
         buffer: p.room < AREA_BYTES,
-        argument: p.beyond | (NUMBER_LIMIT <= p.number) | (3 < p.kind),
+        argument: p.beyond | (NUMBER_LIMIT <= p.number) | (KEY_UPDATE < p.kind),
         book: !p.book,
         error: f.error,
         work: row.idle & (p.kind == COMM),
@@ -90,7 +91,8 @@ fn wrong_length(row: Row, width: u8, p: Shown) -> bool
     }
 }
 
-// By `&` and `|` here and in the two tests below: where a message comes, the fields' places hold data, which chooses no branch.
+// By `&` and `|` here and in the two tests below: where a message comes, the fields' places hold data, which chooses no branch. 3
+// is no method's.
 fn step_wanted(row: Row, method: u8, step: u8) -> bool
     ensures { result ≡ step_wanted row method step }
 {

@@ -4,7 +4,7 @@
 #![tactic(auto)]
 
 use grain::Method;
-use rules::Answer;
+use rules::{AUTHENTICATION, Answer, COMM, COMM_RESPONSE, SECURE, SECURE_RESPONSE};
 use states::{ReaderState, TagState};
 use suite::{Begin, Command, Message, Reader, Step, Tag};
 use text::Line;
@@ -15,9 +15,6 @@ enum Kind {
     Comm,
     Secure,
 }
-
-// The kind of what the authentication hands on, a number, as the machines' calls take any.
-const AUTH: u8 = 0;
 
 // The first of the options with secure messages: 2 has MAC32, 3 has MAC64.
 const SECURE_OPTIONS: u8 = 2;
@@ -54,7 +51,8 @@ const IA_FEATURE: usize = 6;
 // behind them.
 const LINE_BYTES: usize = 24 + 2 * Tag::REPLY_BYTES;
 
-// Both machines, where their calls are printed, and the bits of the last call's reply, which the other machine is given.
+// Both machines, where their calls are printed, and the bits of the last call's reply, which the other machine is
+// given: its bytes stay the caller's, where they are damaged or disclaimed.
 #[derive(Drop)]
 struct Run<'a, P> {
     rt: &'a P,
@@ -79,6 +77,7 @@ fn main(rt: HostRuntime) {
     bought_session(&rt, b"MA MAC32 bought tag", Method::Ma);
 }
 
+// Headings stand as they are printed: made of method and options they would take two matches.
 fn session(rt: &impl Print, heading: &[u8], method: Method, options: u8) {
     let run = Run::fresh(rt, heading)
         .open(method, options)
@@ -112,7 +111,7 @@ fn bought_session(rt: &impl Print, heading: &[u8], method: Method) {
     let mut reply = [0u8; Tag::REPLY_BYTES];
     let run = Run::fresh(rt, heading)
         .begin(method, 0, &mut message)
-        .command(AUTH, &message, &mut reply);
+        .command(AUTHENTICATION, &message, &mut reply);
     let bits = run.bits;
     disclaim(&mut reply);
     print_call(rt, b"bought tag ", Answer::Done, bits, &reply);
@@ -133,16 +132,16 @@ impl Kind {
     // The kind under which a message is handed on.
     fn sent(self) -> u8 {
         match self {
-            Kind::Comm => 1,
-            Kind::Secure => 2,
+            Kind::Comm => COMM,
+            Kind::Secure => SECURE,
         }
     }
 
     // The kind under which the tag is asked for its own message.
     fn wanted(self) -> u8 {
         match self {
-            Kind::Comm => 4,
-            Kind::Secure => 5,
+            Kind::Comm => COMM_RESPONSE,
+            Kind::Secure => SECURE_RESPONSE,
         }
     }
 }
@@ -177,7 +176,7 @@ impl<'a, P: Print> Run<'a, P> {
     // The tag takes the reader's command, and the reader the tag's response: its reply is the command after it.
     fn prove(self, message: &mut [u8]) -> Self {
         let mut reply = [0u8; Tag::REPLY_BYTES];
-        self.command(AUTH, message, &mut reply)
+        self.command(AUTHENTICATION, message, &mut reply)
             .replied(&reply, message)
     }
 

@@ -71,7 +71,7 @@ impl ReaderState {
     }
 }
 
-// Nothing but the stage.
+// Nothing but the stage; by hand, as a stage has no default.
 fn empty(stage: Stage) -> ReaderFace
     ensures { result ≡ empty_reader_face stage }
 {

@@ -56,8 +56,8 @@ fn method_of(method: u8) -> Method
 
 // ---- messages
 
-// The first `count` bits of `bytes`, as they go out, where they stand. `secure` is a flag and no closure: `encrypt` writes the bytes that
-// `authenticate` only reads, so that they have no type in common.
+// The first `count` bits of `bytes`, as they go out, where they stand. `secure` is a flag here and in `receive`, as `sent_session`,
+// `body_of` and `data_of` have it.
 pub fn send(x: Session, width: Width, secure: bool, bytes: &mut [u8], count: usize) -> Session
     ensures { (result ≡ sent_session width secure (take count (bits_of_bytes bytes.old)) x)
         × (bytes.new ≡ with_front count (body_of width secure (take count (bits_of_bytes bytes.old)) x) bytes.old) }
@@ -82,6 +82,7 @@ pub fn receive(x: Session, width: Width, secure: bool, bytes: &mut [u8], count: 
 
 // ---- stored sessions
 
+// A struct update, with a theorem of its own (`with_engine_lem` in `determined`).
 pub fn with_engine(x: Session, engine: Engine) -> Session
     ensures { result ≡ with_engine x engine }
 {

@@ -62,7 +62,7 @@ impl TagState {
 
 // ---- faces
 
-// Everything zero but name and flags.
+// Everything zero but name and flags; by hand, as a name has no default.
 fn bare(name: Name, init: bool, ta: bool, ia: bool, error: bool) -> Face
     ensures { result ≡ bare_face name init ta ia error }
 {

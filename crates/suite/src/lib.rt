@@ -82,7 +82,7 @@ impl Tag {
             book: book::sound(book),
             known: key.is_some(),
         };
-        // Without a key the command is refused by 5, and none is looked at.
+        // Only step 0 looks at the key, and without one it is refused by 5.
         tag_work::carry(t, shown, key.unwrap_or(b""), payload, reply)
     }
 
@@ -160,6 +160,7 @@ impl Reader {
         match verdicts::reader::begin(r, shown) {
             Err(refused) => work::refuse(r, refused, reply),
             Ok(()) => {
+                // Without a key it is refused by 5: the empty one is never read.
                 let key = key.unwrap_or(b"");
                 let o = authentication::reader::begin(method, options, keyid, number, key);
                 work::say(o, reply)

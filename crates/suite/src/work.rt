@@ -61,8 +61,8 @@ pub(crate) fn left<S: Copy>(state: S, answer: Answer, reply: &mut [u8]) -> Step<
     }
 }
 
-// A match on the verdict stands before it in each call: what is done behind an `Ok` differs, and a closure for it would have to lend
-// the reply area on.
+// A refused call: the state, closed or kept, and the answer. A match on the verdict stands before it in each call: what is done behind
+// an `Ok` differs, and a function that lends a closure the reply area on would be no shorter.
 pub(crate) fn refuse<F: Closes>(
     state: State<F>,
     refused: Refused,
@@ -118,8 +118,8 @@ pub(crate) fn send<F: PublicParts>(
     }
 }
 
-// Takes a message of `count` bits in. The reply is its data, and is cleared where its MAC is wrong, so that the verdict is looked
-// at once.
+// Takes a message of `count` bits in. The reply is its data, and is cleared where its MAC is wrong: the comparison's verdict is
+// looked at this one time.
 pub(crate) fn receive<F: Closes>(
     state: State<F>,
     secure: bool,

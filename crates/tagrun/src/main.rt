@@ -91,7 +91,7 @@ fn fresh() -> Tag {
     Tag::reset(&mut reply).next
 }
 
-// Runs a frame and prints its line; the tag after it.
+// Runs a frame and prints its line; the tag after it. Output and number are no struct: both printers would take it apart.
 fn run_frame(rt: &impl Print, tag: Tag, number: u64, frame: Command<'_>) -> Tag {
     let mut reply = [0u8; Tag::REPLY_BYTES];
     let step = host::run(tag, frame, &mut reply);

@@ -96,7 +96,7 @@ pub struct Line<const N: usize> {
 }
 
 // Each method but `new` writes what the function of its name does. They take the line by `&mut`: by value each would copy it. The
-// functions stay public: they write in any lent slice, as `console::print` needs it, and `determined` has a theorem of each.
+// functions stay public: `determined` has a theorem of each, and they write in any lent slice, as `console::print` does by `put`.
 impl<const N: usize> Line<N> {
     // A line with no text.
     pub fn new() -> Self
