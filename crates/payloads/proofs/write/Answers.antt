@@ -1,28 +1,14 @@
-use mathlib.Core.Path.{◌≡◌, refl, sym, ap, ◌∙◌}
-use mathlib.Core.Bool.{Bool}
-use mathlib.Core.List.{List}
+use mathlib.Core.Path.{sym, ap}
 use Prim.Native.Nat.{◌+◌, ◌≤◌, ◌<◌}
 use native.Mathlib.Omega.{arith}
 use lib.ListN.{length, get_or, take, length-append}
-use lib.Seq.{take_all}
 use borrow.Author.Rules.{rules}
-use Rattle.bits.specs.Area.{shown}
 use Rattle.bits.proofs.Numbers.{length-bits_of}
 use Rattle.bits.proofs.Replies.{field_put}
 use Rattle.payloads.specs.declared.Part.{Part}
 use Rattle.payloads.specs.Parts.{bits_of_parts}
 use Rattle.payloads.proofs.Layouts.{parts_more}
 use Rattle.payloads.proofs.write.Goals as goal
-
-pub loop-part-init : goal.loop-part-init
-loop-part-init c = record { small = omega arith; place = refl; area = c.clear.ensures }
-
-pub overflow_add-at : goal.overflow_add-at
-overflow_add-at c =
-    let l = c.loop-part in
-    let n : l.part-index < length c.parts_of-part-items.result = search rules in
-    let w = c.parts_of-part-items.ensures.words l.part-index (record { bits = 0; value = 0 }) n in
-    record { fits = omega (arith, w, l.invariant.small) }
 
 pub loop-part-preserved : goal.loop-part-preserved
 loop-part-preserved c =
@@ -39,10 +25,3 @@ loop-part-preserved c =
       place = rw more (simp (length-append, length-bits_of) (ap (λ n. n + f.bits) l.invariant.place));
       area = rw more put;
     }
-
-pub returns : goal.returns
-returns c =
-    let l = c.loop-part in
-    let fs = c.parts_of-part-items.result in
-    let a : bits_of_parts (take l.part-index fs) ≡ _ = ap bits_of_parts (take_all l.part-index fs (search rules)) ∙ c.parts_of-part-items.ensures.bits in
-    record { value = l.invariant.place ∙ ap length a; out_after = l.invariant.area ∙ ap (λ (l : List Bool). shown l c.args.out.now) a }
