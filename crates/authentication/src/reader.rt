@@ -32,7 +32,7 @@ pub fn begin(method: u8, options: u8, keyid: u8, number: u64, key: &[u8]) -> Out
 fn begin_options(method: u8, options: u8) -> u8
     ensures { result ≡ begin_options method options }
 {
-    if method == 0 { options } else { 0 }
+    if method == rules::TA { options } else { 0 }
 }
 
 // What a response that passed all checks does, by the state and the response's first bit.

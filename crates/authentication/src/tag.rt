@@ -26,8 +26,8 @@ fn started(p: Shown, e: Engine) -> Outcome<TagState>
     ensures { result ≡ handed (started_by p.fields.method p.fields.keyid p.fields.options p.features p.number e) }
 {
     match p.fields.method {
-        0 => ta_started(p, e),
-        1 => challenge(false, p, e),
+        rules::TA => ta_started(p, e),
+        rules::IA => challenge(false, p, e),
         _ => challenge(true, p, e),
     }
 }

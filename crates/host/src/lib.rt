@@ -24,7 +24,7 @@ pub fn run(tag: Tag, command: Command<'_>, reply: &mut [u8]) -> Step<TagState>
         count: command.count,
     };
     match command.kind {
-        4 | 5 => tag.response(message, reply),
+        rules::COMM_RESPONSE | rules::SECURE_RESPONSE => tag.response(message, reply),
         6 => Tag::reset(reply),
         _ => tag.command(command, reply),
     }
