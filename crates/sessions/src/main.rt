@@ -244,6 +244,7 @@ impl<'a, P: Print> Run<'a, P> {
         self.after_reader(b"reader receive ", step, reply)
     }
 
+    // This and `after_tag` stay two: each puts another field's machine back, which a closure would spell out as well.
     fn after_reader(self, name: &[u8], step: Step<ReaderState>, reply: &[u8]) -> Self {
         print_call(self.rt, name, step.answer, step.bits, reply);
         Run {
