@@ -69,10 +69,9 @@ fn run(rt: &impl Print, input: &[u8]) {
                 return;
             }
             Ok(frame) => {
-                let payload = &rest[frame.start..frame.end];
                 let command = Command {
                     kind: frame.kind,
-                    payload,
+                    payload: frames::payload(rest),
                     count: frame.count,
                     features: FEATURES,
                     book: &BOOK,

@@ -13,36 +13,24 @@ use Rattle.frames.specs.declared.Frame.{Frame}
 use Rattle.frames.proofs.Answers.{FrameRead, frame_read, frame_within}
 use Rattle.tagrun.proofs.run.Goals as goal
 
--- a frame has a byte at least, and it and its payload lie inside what is left; and what is left behind it are bytes
-pub record Inside (s : List ℕ) (start end : ℕ) : Type 0 where
-  pub ordered : start ≤ end
+-- a frame has a byte at least, and lies inside what is left; and what is left behind it are bytes
+pub record Inside (s : List ℕ) (end : ℕ) : Type 0 where
   pub some : 0 < end
   pub within : end ≤ length s
   pub left : take (length s - end) (drop end s) ≡ drop end s
   pub size : length (drop end s) ≡ length s - end
   pub bytes : Octets (drop end s)
 
-inside : (s : List ℕ) (f : Frame) → Octets s → Ok f ≡ scan_of s → Inside s f.start f.end
+inside : (s : List ℕ) (f : Frame) → Octets s → Ok f ≡ scan_of s → Inside s f.end
 inside s f b e =
     let r : FrameRead s f.kind f.count f.start f.end = frame_read s f.kind f.count f.start f.end b (sym e) in
-    let w = frame_within s f.kind f.count f.start f.end r in
     record {
-      ordered = w.0;
       some = omega (arith, r.starts, r.ends);
-      within = w.1;
+      within = (frame_within s f.kind f.count f.start f.end r).1;
       left = between_to_end s f.end (length s) (omega arith);
       size = length-drop f.end s;
       bytes = λ i. rw (get_or-drop f.end s i 0) (b (f.end + i));
     }
-
-pub slice_bounds-payload-count : goal.slice_bounds-payload-count
-slice_bounds-payload-count g c = (inside c.loop-rest.rest.now c.in-Ok.frame c.loop-rest.invariant.0 c.in-Ok.ensures).ordered
-
-pub slice_bounds-payload-start : goal.slice_bounds-payload-start
-slice_bounds-payload-start g c = (inside c.loop-rest.rest.now c.in-Ok.frame c.loop-rest.invariant.0 c.in-Ok.ensures).ordered
-
-pub slice_bounds-payload-end : goal.slice_bounds-payload-end
-slice_bounds-payload-end g c = (inside c.loop-rest.rest.now c.in-Ok.frame c.loop-rest.invariant.0 c.in-Ok.ensures).within
 
 pub slice_bounds-rest-count : goal.slice_bounds-rest-count
 slice_bounds-rest-count g c = (inside c.loop-rest.rest.now c.in-Ok.frame c.loop-rest.invariant.0 c.in-Ok.ensures).within
