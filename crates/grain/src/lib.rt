@@ -6,7 +6,6 @@
 mod taps;
 
 ghost use Rattle.std.specs.Prelude.{◌≡◌, cond, false, ℕ, ◌<◌, ◌≤◌, ◌^◌, ◌%◌, get_or, length, take};
-ghost use Rattle.grain.specs.declared.Width.{Width};
 ghost use Rattle.bits.specs.Bits.{bits_of, num_of};
 ghost use Rattle.bits.specs.Bytes.{bits_of_bytes, with_front, word_bits};
 ghost use Rattle.grain.specs.Generator.{push, product, value, clock, out, bit_at, next_b, next_s};
@@ -276,7 +275,7 @@ impl Session {
 
     // A message bit goes in. At 32 bits the words' high halves hold what has left the shift register; `pad` drops it.
     fn step(self, m: bool) -> Session
-        ensures { (v : Width) → mac_of (width_of v) result ≡ taken m (mac_of (width_of v) self) }
+        ensures { (w : ℕ) → 0 < w → w ≤ 64 → mac_of w result ≡ taken m (mac_of w self) }
     {
         let p = self.engine.pair();
         Session {
@@ -288,7 +287,7 @@ impl Session {
 
     // A bit is no element of the slice, so the fold here and the loop below go over places.
     fn absorb(self, bytes: &[u8], count: usize) -> Session
-        ensures { (v : Width) → mac_of (width_of v) result ≡ absorbed (take count (bits_of_bytes bytes.now)) (mac_of (width_of v) self) }
+        ensures { (w : ℕ) → 0 < w → w ≤ 64 → mac_of w result ≡ absorbed (take count (bits_of_bytes bytes.now)) (mac_of w self) }
     {
         let n = bits::bits_in(bytes, count);
         (0..n).fold(self, |x, i| x.step(bits::bit_at(bytes, i)))
@@ -297,9 +296,9 @@ impl Session {
     // Each bit has its keystream bit added, and of the two the encrypted one goes into the MAC. A constant, so that both ways have
     // one proof, and none is chosen at run time.
     fn cipher<const DECRYPTING: bool>(self, bytes: &mut [u8], count: usize) -> Session
-        ensures { (v : Width) →
-            (mac_of (width_of v) result ≡ absorbed (cond DECRYPTING (take count (bits_of_bytes bytes.old)) (encrypted (take count (bits_of_bytes bytes.old)) (mac_of (width_of v) self))) (mac_of (width_of v) self))
-            × (bytes.new ≡ with_front count (cond DECRYPTING (decrypted (take count (bits_of_bytes bytes.old)) (mac_of (width_of v) self)) (encrypted (take count (bits_of_bytes bytes.old)) (mac_of (width_of v) self))) bytes.old) }
+        ensures { (w : ℕ) → 0 < w → w ≤ 64 →
+            (mac_of w result ≡ absorbed (cond DECRYPTING (take count (bits_of_bytes bytes.old)) (encrypted (take count (bits_of_bytes bytes.old)) (mac_of w self))) (mac_of w self))
+            × (bytes.new ≡ with_front count (cond DECRYPTING (decrypted (take count (bits_of_bytes bytes.old)) (mac_of w self)) (encrypted (take count (bits_of_bytes bytes.old)) (mac_of w self))) bytes.old) }
     {
         let n = bits::bits_in(bytes, count);
         let mut x = self;

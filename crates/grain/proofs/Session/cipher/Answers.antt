@@ -10,13 +10,13 @@ use Rattle.bits.specs.Bytes.{bits_of_bytes, bytes_of}
 use Rattle.bits.proofs.Bytes.{bytes_bits, set-bits, length-bits_of_bytes}
 use Rattle.grain.specs.Generator.{out}
 use Rattle.grain.specs.Mac.{key_bit}
-use Rattle.grain.specs.Stored.{mac_of, state_of, width_of}
+use Rattle.grain.specs.Stored.{mac_of, state_of}
 use Rattle.grain.proofs.Messages.{fed, turned, fed_is, turned_is, fed_turn, turned_turn, cut_short}
 use borrow.Author.Rules.{rules}
 use Rattle.grain.proofs.Session.cipher.Goals as goal
 
 pub loop-i-init : goal.loop-i-init
-loop-i-init g c = (search rules, refl, sym (bytes_bits c.args.bytes.now (search rules)), λ v. (rw sub-zero, rw sub-zero))
+loop-i-init g c = (search rules, refl, sym (bytes_bits c.args.bytes.now (search rules)), λ w h k. (rw sub-zero, rw sub-zero))
 
 pub loop-i-preserved : goal.loop-i-preserved
 unfolding mac_of key_bit
@@ -34,25 +34,25 @@ loop-i-preserved g c =
       search rules,
       r.auto.s ∙ l.invariant.1,
       r.ensures ∙ ap₂ bytes_of (sym r.auto.s) (sym (set-bits l.bytes r.new.s l.i _ r.ensures)),
-      λ v. (
-        rw (c.step-x.ensures v, c.bit_at-m.ensures, c.out-k.ensures, b)
-            (fed_turn (not (eqb g.row.DECRYPTING 0)) n l.i ms (mac_of (width_of v) l.x) i j _ (l.invariant.3 v).0),
-        rw (c.step-x.ensures v, c.bit_at-m.ensures, c.out-k.ensures, b)
-            (turned_turn (not (eqb g.row.DECRYPTING 0)) n l.i ms (mac_of (width_of v) l.x) i j _ (l.invariant.3 v).1),
+      λ w h k. (
+        rw (c.step-x.ensures w h k, c.bit_at-m.ensures, c.out-k.ensures, b)
+            (fed_turn (not (eqb g.row.DECRYPTING 0)) n l.i ms (mac_of w l.x) i j _ (l.invariant.3 w h k).0),
+        rw (c.step-x.ensures w h k, c.bit_at-m.ensures, c.out-k.ensures, b)
+            (turned_turn (not (eqb g.row.DECRYPTING 0)) n l.i ms (mac_of w l.x) i j _ (l.invariant.3 w h k).1),
       ),
     )
 
 pub returns : goal.returns
 unfolding fed turned
 returns g c =
-    λ v.
+    λ w h k.
     let a = c.args in
     let l = c.loop-i in
     let bits = bits_of_bytes a.bytes.now in
     let n = c.bits_in-n.result in
     let e : n - l.i ≡ 0 = omega arith in
     let s = cut_short n a.count bits c.bits_in-n.ensures in (
-      (rw e at (l.invariant.3 v).0) ∙ (rw s.0 at (fed_is (not (eqb g.row.DECRYPTING 0)) n bits (mac_of (width_of v) a.self))),
+      (rw e at (l.invariant.3 w h k).0) ∙ (rw s.0 at (fed_is (not (eqb g.row.DECRYPTING 0)) n bits (mac_of w a.self))),
       l.invariant.2 ∙ ap₂ bytes_of l.invariant.1
-          (sym (take-append-drop l.i (bits_of_bytes l.bytes)) ∙ (rw e at (l.invariant.3 v).1) ∙ (rw (s.0, s.1) at (turned_is (not (eqb g.row.DECRYPTING 0)) n bits (mac_of (width_of v) a.self)))),
+          (sym (take-append-drop l.i (bits_of_bytes l.bytes)) ∙ (rw e at (l.invariant.3 w h k).1) ∙ (rw (s.0, s.1) at (turned_is (not (eqb g.row.DECRYPTING 0)) n bits (mac_of w a.self)))),
     )
