@@ -1,12 +1,14 @@
 -- Runs of stores in lent tails, one behind the other, and a run that is a copy. Assumes nothing.
-use Prim.Native.Nat.{ℕ, ◌+◌, ◌-◌, ◌≤◌}
+use Prim.Native.Nat.{ℕ, ◌+◌, ◌-◌, ◌≤◌, ◌<◌}
 use mathlib.Core.List.{List, ◌++◌}
 use mathlib.Core.Path.{◌≡◌, ap, sym, ◌∙◌}
 use native.Mathlib.Nat.{zero-add}
+use native.Mathlib.Numerals.{add-one}
 use native.Mathlib.Omega.{arith}
-use lib.ListN.{length, take, drop}
-use lib.Seq.{sets, sets-eq, length-take-le}
+use lib.ListN.{length, get_or, take, drop, set}
+use lib.Seq.{sets, sets-eq, length-take-le, take-suc}
 use borrow.Rule.Slice.PartMut.{mid_of, put_mid}
+use Rattle.bits.proofs.Lists.{sets-append}
 use Rattle.counts.proofs.Tails.{lent}
 
 -- two runs, each in the tail from its place
@@ -24,3 +26,7 @@ copied l p n h k =
     let size : length (take n p) ≡ n = length-take-le n p k in
     let room : 0 + length (take n p) ≤ length l = omega arith in
     sym (rw (sets-eq (take n p) l 0 room, zero-add, size))
+
+-- a copy, one store further
+pub copied_turn : (l p : List ℕ) (i : ℕ) → i < length p → set (sets l 0 (take i p)) i (get_or p i 0) ≡ sets l 0 (take (i + 1) p)
+copied_turn l p i h = rw (add-one, take-suc p i 0 h, sets-append, length-take-le i p (omega arith), zero-add)
