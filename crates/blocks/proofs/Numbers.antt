@@ -35,7 +35,7 @@ byte-field (x ∷ m) (suc i) h =
     rw (e, ← drop-drop (8 * i) 8 (bits_of 8 x ++ bits_of_bytes m), drop_at (bits_of 8 x) (bits_of_bytes m) 8 (length-bits_of 8 x)) (byte-field m i (λ j. h (suc j)))
 
 -- a number with one byte more
-field-byte : (m : List ℕ) (at k : ℕ) → Octets m → field_of (8 * at) (8 * (k + 1)) (bits_of_bytes m) ≡ field_of (8 * at) (8 * k) (bits_of_bytes m) * 256 + get_or m (at + k) 0
+pub field-byte : (m : List ℕ) (at k : ℕ) → Octets m → field_of (8 * at) (8 * (k + 1)) (bits_of_bytes m) ≡ field_of (8 * at) (8 * k) (bits_of_bytes m) * 256 + get_or m (at + k) 0
 unfolding field_of
 field-byte m at k h =
     let l : List Bool = drop (8 * at) (bits_of_bytes m) in

@@ -8,6 +8,8 @@ use lib.ListN.{length, length-append}
 use lib.Seq.{sets, length-sets}
 use Rattle.bits.proofs.Lists.{sets-append, sets-out}
 use Rattle.text.specs.Text.{Writes}
+-- the first n, where there are so many
+pub use Rattle.std.proofs.lemmas.List.{take_min as take-least}
 
 -- nothing is written where it is
 pub empty : (l : List ℕ) (at : ℕ) → Writes [] l at l at

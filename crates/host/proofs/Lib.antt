@@ -1,0 +1,2 @@
+-- Laws of the kinds, which no proof here has to cite.
+mod Running
