@@ -1,10 +1,11 @@
 // `tagrun` runs the frames of standard input through one tag and prints a line for each (document 01, "Host frames").
 #![tactic(auto)]
 
-ghost use Rattle.std.specs.Prelude.{◌≤◌, length};
+ghost use Rattle.std.specs.Prelude.{◌≡◌, ◌≤◌, length};
+ghost use Rattle.frames.specs.Frame.{payload_of};
 
 use faces::Name;
-use frames::Refusal;
+use frames::{Frame, Refusal};
 use states::TagState;
 use std::io::Read;
 use suite::{Command, Step, Tag};
@@ -69,18 +70,24 @@ fn run(rt: &impl Print, input: &[u8]) {
                 return;
             }
             Ok(frame) => {
-                let command = Command {
-                    kind: frame.kind,
-                    payload: frames::payload(rest),
-                    count: frame.count,
-                    features: FEATURES,
-                    book: &BOOK,
-                    number: NUMBER,
-                };
-                tag = run_frame(rt, tag, number, command);
+                tag = run_frame(rt, tag, number, command(frame, rest));
                 rest = &rest[frame.end..];
             }
         }
+    }
+}
+
+// The frame that `rest` begins with, as the tag's call: its payload is what `frames` hands back of `rest`.
+fn command<'a>(frame: Frame, rest: &'a [u8]) -> Command<'a>
+    ensures { (result.kind ≡ frame.kind) × ((result.count ≡ frame.count) × (result.payload.now ≡ payload_of rest.now)) }
+{
+    Command {
+        kind: frame.kind,
+        payload: frames::payload(rest),
+        count: frame.count,
+        features: FEATURES,
+        book: &BOOK,
+        number: NUMBER,
     }
 }
 
