@@ -131,7 +131,8 @@ fn put_frame(out: &mut [u8], kind: u8, count: usize, payload: &[u8])
     put_payload(&mut out[p..], payload, counts::size(count));
 }
 
-// By its elements, and no `copy_from_slice`: that is a call of `memmove`, which a C program without a C library would have to bring.
+// By its places: `copy_from_slice` of a length that no constant says is a call of `memmove`, which a C program without a C library would
+// have to bring.
 fn put_payload(out: &mut [u8], payload: &[u8], n: usize)
     requires { (n ≤ length payload.now) × (n ≤ length out.old) }
     ensures { out.new ≡ sets out.old 0 (take n payload.now) }
