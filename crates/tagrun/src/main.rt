@@ -3,6 +3,7 @@
 
 ghost use Rattle.std.specs.Prelude.{◌≡◌, ◌≤◌, length};
 ghost use Rattle.frames.specs.Frame.{payload_of};
+ghost use Rattle.rules.specs.Calls.{lent_command};
 
 use faces::Name;
 use frames::{Frame, Refusal};
@@ -79,7 +80,7 @@ fn run(rt: &impl Print, input: &[u8]) {
 
 // The frame that `rest` begins with, as the tag's call: its payload is what `frames` hands back of `rest`.
 fn command<'a>(frame: Frame, rest: &'a [u8]) -> Command<'a>
-    ensures { (result.kind ≡ frame.kind) × ((result.count ≡ frame.count) × (result.payload.now ≡ payload_of rest.now)) }
+    ensures { lent_command result ≡ record { kind = frame.kind; payload = payload_of rest.now; count = frame.count; features = FEATURES; book = BOOK; number = NUMBER } }
 {
     Command {
         kind: frame.kind,
